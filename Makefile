@@ -1,5 +1,5 @@
 # Installs what .ci/run built: make install [PREFIX=/usr/local] [DESTDIR=] [PROGRAM=PATH] [PYTHON=/usr/bin/python3].
-# Makes a package of Debian's of it: make deb [DEB=out/forkhost.deb] [ROOM=out/deb] [VERSION=..] [PROGRAM=PATH].
+# Makes a Debian package of it: make deb [DEB=out/forkhost.deb] [ROOM=out/deb] [VERSION=..] [PROGRAM=PATH].
 PREFIX ?= /usr/local
 PROGRAM ?= crates/forkhost/out/forkhost
 PYTHON ?= /usr/bin/python3

@@ -31,7 +31,8 @@ class HostFault(Fatal):
 
     def __init__(self, word: str):
         self.word = word
-        super().__init__(f"the host failed ({word}) and this request changed nothing; it may be sent again")
+        later = "the operator has to restore a file first" if word == "damaged" else "it may be sent again"
+        super().__init__(f"the host failed ({word}) and this request changed nothing; {later}")
 
 
 class Refused(Exception):

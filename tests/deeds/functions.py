@@ -33,7 +33,7 @@ def body_at(lines, row):
 
 
 def last_word(text):
-    return re.match(r"&?([\w:]*)", text.strip())[1].rpartition("::")[2]
+    return re.match(r"&?([\w:]*)", text.strip())[1].rstrip(":").rpartition("::")[2]
 
 
 def owner_of(line):

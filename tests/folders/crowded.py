@@ -19,6 +19,8 @@ from lib.waiting import PATIENCE, until, until_it_waits
 BAD_LINE = b"! bad-frame\n"
 # Replies of so many peers that read nothing are more than may wait in all; and what is left once some have gone is less.
 DEAF, GONE = 100, 60
+# A reply of a MiB has 46 seconds, one that holds up others 30; what a busy machine takes longer is not counted.
+STALLED = 42
 
 
 def served(program, work, connections, places, *words):
@@ -96,6 +98,60 @@ def show_full(checks, program, work):
     checks.same("the end", done(), serving.ended())
 
 
+def show_stall(checks, program, work):
+    """While too much waits, one that takes nothing of its reply for 30 seconds goes, and then frames are taken; but one that
+    takes some of it stays."""
+    serving = served(program, work, DEAF + 3, 128)
+    checks.same("a great object", framed(b"ok\n") * 2, serving.told(frames([(ALICE, b"init r\n"), (ALICE, GREAT_PUSH)])))
+    good, slow = serving.client(), serving.client()
+    checks.same("before", TOLD, asked(good))
+    slow.sendall(GREAT_ASK)
+    front, ended = bytearray(), threading.Event()
+    taking = threading.Thread(target=takes_slowly, args=(slow, front, ended))
+    taking.start()
+    deaf = [serving.client() for _ in range(DEAF)]
+    for stream in deaf:
+        stream.sendall(GREAT_ASK)
+    checks.same("then it only waits", True, until_it_waits(serving.child.pid))
+    begun = time.monotonic()
+    good.sendall(QUOTA)
+    checks.same("one is served then", TOLD, exactly(good, len(TOLD)))
+    took = time.monotonic() - begun
+    checks.holds("it waits 30 seconds", None if 28 < took < STALLED else f"it waited {took:.1f} seconds")
+    ended.set()
+    taking.join()
+    checks.same("one that takes some stays", GREAT_TOLD, bytes(front) + exactly(slow, len(GREAT_TOLD) - len(front)))
+    for stream in (good, slow, *deaf):
+        stream.close()
+    checks.same("the end", done(), serving.ended())
+
+
+def takes_slowly(stream, front, ended):
+    """A part of a reply every few seconds."""
+    while not ended.wait(4):
+        front += stream.recv(65536)
+
+
+def show_no_files(checks, program, work):
+    """A host that serves one after another waits too, until there is a file for the next one."""
+    serving = Serving(program, os.path.join(work, "socket"), 3, *TENANTS)
+    checks.same("the first", TOLD, serving.told(QUOTA))
+    checks.same("then it only waits", True, until_it_waits(serving.child.pid))
+    there = {int(number) for number in os.listdir(f"/proc/{serving.child.pid}/fd")}
+    least = min(set(range(len(there) + 1)) - there)
+    old = resource.prlimit(serving.child.pid, resource.RLIMIT_NOFILE)
+    resource.prlimit(serving.child.pid, resource.RLIMIT_NOFILE, (least, old[1]))
+    # The system takes a file for the next connection before it waits for it.
+    checks.same("the second has one", TOLD, serving.told(QUOTA))
+    stream = serving.client()
+    stream.sendall(QUOTA)
+    checks.same("the third one waits", True, tells_nothing(stream, 1.5))
+    resource.prlimit(serving.child.pid, resource.RLIMIT_NOFILE, old)
+    checks.same("and is served then", TOLD, exactly(stream, len(TOLD)))
+    stream.close()
+    checks.same("the end", done(), serving.ended())
+
+
 def show_few_files(checks, program, work):
     """Without files for more, those that are there are served, and others once some have gone."""
     serving = served(program, work, 12, 64)
@@ -163,6 +219,57 @@ class Limited:
         child = subprocess.Popen(given, stdin=pipe, stdout=pipe, stderr=pipe, preexec_fn=self.prepare, restore_signals=False)
         self.program.running.append(child)
         return child
+
+
+class Traced:
+    """The program, of which a file has each call that syncs."""
+
+    def __init__(self, program, path, *how):
+        self.program, self.path, self.how = program, path, how
+
+    def begun(self, *words):
+        pipe = subprocess.PIPE
+        traced = ["strace", "-f", "-qq", "-o", self.path, "-e", "trace=fdatasync", *self.how, self.program.path, *words]
+        child = subprocess.Popen(traced, stdin=pipe, stdout=pipe, stderr=pipe)
+        self.program.running.append(child)
+        return child
+
+    def count(self):
+        with open(self.path, encoding="utf-8", errors="replace") as file:
+            return sum("fdatasync(" in line for line in file)
+
+
+def show_synced(checks, program, work):
+    """With --sync what changed something is synced when its reply is there, and nothing else is."""
+    ways = {"in turn": ["--sync"], "at once": ["--sync", "--at-once", "8"], "not at all": ["--at-once", "8"]}
+    for label, words in ways.items():
+        traced = Traced(program, os.path.join(work, f"calls {label}"))
+        kept = os.path.join(work, f"kept {label}")
+        serving = Serving(traced, os.path.join(work, "socket"), 1, "--dir", kept, *words, *TENANTS)
+        with serving.client() as stream:
+            for number in range(3):
+                before = traced.count()
+                stream.sendall(frame(ALICE, b"init r%d\n" % number))
+                checks.same(f"{label}: a repository", framed(b"ok\n"), exactly(stream, len(framed(b"ok\n"))))
+                checks.same(f"{label}: it is synced", int("--sync" in words), traced.count() - before)
+                before = traced.count()
+                checks.same(f"{label}: a request that only asks", TOLD, asked(stream))
+                checks.same(f"{label}: it is not", 0, traced.count() - before)
+        checks.same(f"{label}: the end", done(), serving.ended())
+
+
+def show_failed_sync(checks, program, work):
+    """Where a sync fails, the reply does not go out, and serving ends."""
+    for label, words in {"in turn": ["--sync"], "at once": ["--sync", "--at-once", "8"]}.items():
+        kept, fails = os.path.join(work, f"kept {label}"), ["-e", "inject=fdatasync:error=EIO:when=2"]
+        traced = Traced(program, os.path.join(work, f"calls {label}"), *fails)
+        serving = Serving(traced, os.path.join(work, "socket"), 2, "--dir", kept, *words, *TENANTS)
+        with serving.client() as stream:
+            stream.sendall(frame(ALICE, b"init r\n"))
+            checks.same(f"{label}: one that is synced", framed(b"ok\n"), exactly(stream, len(framed(b"ok\n"))))
+            stream.sendall(frame(ALICE, b"init s\n"))
+            checks.same(f"{label}: one that is not", b"", to_end(stream))
+        checks.same(f"{label}: the end", failed("journal not written"), serving.ended())
 
 
 def upload(number):

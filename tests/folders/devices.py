@@ -87,6 +87,7 @@ def show_writes(checks: Checks, program, folder):
     live = Live(program, "--dir", folder.path, "alice=10000")
     checks.same("init", b"ok\n", live.asked(ALICE, b"init r\n"))
     for home in homes(folder):
+        os.rmdir(home)
         with open(home, "wb"):
             pass
     for _ in range(2):
@@ -110,6 +111,7 @@ def show_second_write(checks: Checks, program, folder):
     first, second = B, O
     push = b"push r\n\n" + record(*OBJECTS[first]) + record(*OBJECTS[second])
     home = os.path.dirname(folder.file_of(second))
+    os.rmdir(home)
     with open(home, "wb"):
         pass
     checks.same("a push whose second object can't be written", b"host store\n", live.asked(ALICE, push))

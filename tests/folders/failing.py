@@ -8,7 +8,7 @@ from lib.program import Program
 
 # The calls below `objects` and `swept`, by kinds. What is shared says which kinds count, how many pass, how many fail
 # then, and how many were counted and failed.
-KINDS = {name: 1 << at for at, name in enumerate(("open", "stat", "mkdir", "rename", "unlink", "read", "write", "list"))}
+KINDS = {name: 1 << at for at, name in enumerate(("open", "stat", "mkdir", "rename", "unlink", "read", "write", "list", "sync"))}
 KINDS["all"] = sum(KINDS.values())
 SHIM = r"""
 #define _GNU_SOURCE
@@ -23,7 +23,7 @@ SHIM = r"""
 #include <sys/stat.h>
 #include <unistd.h>
 
-enum { OPEN = 1, STAT = 2, MKDIR = 4, RENAME = 8, UNLINK = 16, READ = 32, WRITE = 64, LIST = 128 };
+enum { OPEN = 1, STAT = 2, MKDIR = 4, RENAME = 8, UNLINK = 16, READ = 32, WRITE = 64, LIST = 128, SYNC = 256 };
 
 static volatile long *cell;
 static char ours[4096];
@@ -104,6 +104,16 @@ ssize_t read(int fd, void *bytes, size_t size) {
 ssize_t write(int fd, const void *bytes, size_t size) {
     REAL(write, ssize_t, int, const void *, size_t);
     return has(fd) && fails(WRITE) ? -1 : real(fd, bytes, size);
+}
+
+int fsync(int fd) {
+    REAL(fsync, int, int);
+    return has(fd) && fails(SYNC) ? -1 : real(fd);
+}
+
+int fdatasync(int fd) {
+    REAL(fdatasync, int, int);
+    return has(fd) && fails(SYNC) ? -1 : real(fd);
 }
 
 ssize_t getdents64(int fd, void *bytes, size_t size) {

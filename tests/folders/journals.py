@@ -246,6 +246,7 @@ def show_faults(checks, program, work):
     checks.same("a part", b"ok\n", live.asked(ALICE, b"part\n" + head + b"\n\n"))
     before = folder.journal()
     for home in homes(folder):
+        os.rmdir(home)
         write(home, b"")
     checks.same("a part whose objects can't be stored", b"host store\n", live.asked(ALICE, b"part\n" + rest))
     checks.same("it is not kept", before, folder.journal())

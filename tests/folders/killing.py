@@ -57,7 +57,7 @@ class Host:
         self.path = path
         if os.path.lexists(path):
             os.remove(path)
-        given = [program.path, "serve", "--socket", path, "--connections", "1000000", "--dir", folder, *words]
+        given = program.given("serve", "--socket", path, "--connections", "1000000", "--dir", folder, *words)
         pipe = subprocess.PIPE
         self.child = subprocess.Popen(
             given, stdin=pipe, stdout=pipe, stderr=pipe, preexec_fn=prepare, restore_signals=prepare is None

@@ -66,15 +66,28 @@ def show_moved(checks, program, work):
         if at + 1 < len(pieces):
             rows[f"no piece {at}"] = pieces[:at] + pieces[at + 1 :]
             rows[f"no last byte of piece {at}"] = [*pieces[:at], piece[:-1], *pieces[at + 1 :]]
-    tails = [b"\0" * 50, b"alice 5\nabc", STALE, log("0" * 64, [STALE]), whole]
+    tails = [b"\0" * 31, b"\0" * 50 + b"\1", b"alice 5\nabc", STALE, log("0" * 64, [STALE]), whole]
     rows |= {f"the tail {tail[:10]!r}": [*pieces, tail] for tail in tails}
     rows["what is no frame"] = [log(folder.name(), [b"\0" * 50])]
     rows["what is no frame, before others"] = [log(folder.name(), [b"x\n", STALE])]
     for label, row in rows.items():
         folder.set_log(b"".join(row))
         show_told(checks, program, folder, label, UNREADABLE)
+    show_zeros(checks, program, folder, pieces)
     folder.set_log(log(folder.name(), [STALE[:5], b"", STALE[5:]]))
     checks.same("a frame in pieces, one of them empty", sound(1), program.checked(folder.path))
+
+
+def show_zeros(checks, program, folder, pieces):
+    """A loss of power leaves zeros where what was appended did not reach the disk: the log is right up to there."""
+    count = len(TURNS)
+    for length in (32, 50, 4096, 70_000):
+        folder.set_log(b"".join(pieces) + bytes(length))
+        checks.same(f"{length} zeros behind the last piece", sound(count), program.checked(folder.path))
+    last = pieces[-1]
+    for lost in (SUM, SUM + 1, len(last) - 1, len(last)):
+        folder.set_log(b"".join(pieces[:-1]) + last[: len(last) - lost] + bytes(lost))
+        checks.same(f"zeros in the last {lost} bytes", sound(count - 1), program.checked(folder.path))
 
 
 def put(folder, name, standing, turns):

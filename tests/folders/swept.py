@@ -4,7 +4,7 @@ import shutil
 
 from folders.cases import B, C, FILES, O, OBJECTS
 from folders.devices import ALICE, PUSH, SAVED
-from folders.killing import one_told
+from folders.killing import HOST, one_told
 from lib.folder import Folder, write
 from lib.frames import framed, frames
 from lib.live import Live, Serving
@@ -98,22 +98,27 @@ def show_let_go(checks, program, folder):
 
 def show_connections(checks, program, folder, work):
     """What is swept in a connection goes at its end; the state is saved, where anything was done."""
-    serving = Serving(program, os.path.join(work, "socket"), 6, "--dir", folder.path)
+    path = os.path.join(work, "socket")
     for payload, there in ((b"init s\n", True), (b"quota\n", False)):
+        name = folder.put(b"blob", b"nobody's")
+        serving = Serving(program, path, 2, "--dir", folder.path)
         with serving.client() as stream:
             stream.sendall(QUOTA)
             one_told(stream)
             state = os.lstat(folder.inside("state")).st_ino
-            folder.sweep(folder.put(b"blob", b"nobody's"))
-            stream.sendall(frames([(ALICE, payload)]))
+            stream.sendall(frames([(HOST, b"collect\n"), (ALICE, payload)]))
+            checks.same("it is swept", b"ok\n1\n", one_told(stream))
             checks.same(repr(payload), True, one_told(stream).startswith(b"ok\n"))
+            checks.same(f"after {payload!r}: it is kept", [name.decode()], folder.swept())
         serving.told(QUOTA)
         checks.same(f"after {payload!r}: none is swept", [], folder.swept())
         checks.same(f"after {payload!r}: the journal", b"", folder.journal())
         checks.same(f"after {payload!r}: it is saved", there, os.lstat(folder.inside("state")).st_ino != state)
+        checks.same("its end", done(), serving.ended())
+    serving = Serving(program, path, 2, "--dir", folder.path)
     checks.same("a change", framed(b"ok\n"), serving.told(frames([(ALICE, b"drop s\n")])))
-    serving.told(QUOTA)
     checks.same("where nothing is swept the state waits", False, folder.journal() == b"")
+    serving.told(QUOTA)
     checks.same("the end", done(), serving.ended())
     checks.same("its state", SAVED, folder.state())
 

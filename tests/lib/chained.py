@@ -33,15 +33,16 @@ def pieces_in(name, written):
         length = written[at : at + 4]
         head = sum_after(before, length)
         told = written[at + 4 : at + HEAD]
+        torn = "cut" if written[at:][-SUM:] == bytes(SUM) else "altered"
         if len(length) == 4 and not head.startswith(told):
-            return pieces, "altered"
+            return pieces, torn
         end = at + HEAD + int.from_bytes(length, "big")
         piece, after = written[at + HEAD : end], written[end : end + SUM]
         if len(after) < SUM and not (end <= len(written) and not sum_after(head, piece).startswith(after)):
             return pieces, "cut"
         before = sum_after(head, piece)
         if after != before:
-            return pieces, "altered"
+            return pieces, torn
         pieces.append(piece)
         at = end + SUM
     return pieces, "whole"

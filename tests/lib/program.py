@@ -46,15 +46,23 @@ def failed(fault, output=b""):
 
 
 class Program:
-    def __init__(self, path):
-        self.path, self.running = os.path.abspath(path), []
+    def __init__(self, path, more=None):
+        self.path, self.running, self.more = os.path.abspath(path), [], more or {}
+
+    def with_words(self, **more):
+        """The same program, which is given these words too behind those of a command."""
+        return Program(self.path, more)
+
+    def given(self, *words):
+        """What is run for the words of a command."""
+        return [self.path, *words, *self.more.get(words[0] if words else "", ())]
 
     def ran(self, *words, given=b"", patience=PATIENCE):
         return ended(self.begun(*words), given, patience)
 
     def begun(self, *words, stdin=subprocess.PIPE, stdout=subprocess.PIPE):
         """The program with pipes, or with what is given in their place, still running."""
-        child = subprocess.Popen([self.path, *words], stdin=stdin, stdout=stdout, stderr=subprocess.PIPE)
+        child = subprocess.Popen(self.given(*words), stdin=stdin, stdout=stdout, stderr=subprocess.PIPE)
         self.running = [other for other in self.running if other.poll() is None] + [child]
         return child
 

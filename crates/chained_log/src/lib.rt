@@ -8,10 +8,12 @@ mod next;
 mod piece;
 mod reader;
 mod sums;
+mod sync;
 mod writer;
 
 pub use crate::fault::Ended;
 pub use crate::law::what_is_written_is_found;
 pub use crate::next::{Found, next_piece};
 pub use crate::reader::LogReader;
+pub use crate::sync::SyncData;
 pub use crate::writer::LogWriter;

@@ -51,6 +51,32 @@ fn fill<R: Read>(reader: &mut R, most: usize, came: &mut Vec<u8>) -> io::Result<
     Ok(())
 }
 
+// How many of the last bytes of a text are zero, if `before` of the last bytes in front of these are.
+fn zeros_at_end(before: usize, bytes: &[u8]) -> usize {
+    let mut zeros = before;
+    for byte in bytes {
+        zeros = if *byte == 0 {
+            zeros.saturating_add(1)
+        } else {
+            0
+        };
+    }
+    zeros
+}
+
+// Reads what is left after what came, and says whether the last sum is all zeros.
+fn ends_in_zeros<R: Read>(reader: &mut R, came: &mut Vec<u8>) -> io::Result<bool> {
+    let mut zeros = zeros_at_end(0, came.as_slice());
+    for _ in 0..u64::MAX {
+        came.clear();
+        if read_onto(reader, CHUNK, came)? == 0 {
+            return Ok(zeros >= SUM);
+        }
+        zeros = zeros_at_end(zeros, came.as_slice());
+    }
+    Ok(false)
+}
+
 // How many bytes the piece of this front has, with all that stands around it.
 fn whole_length(front: &[u8]) -> usize
     ensures { (before piece lost : List ℕ) → Fits piece → LENGTH ≤ length front.now → front.now ++ lost ≡ piece_bytes before piece → result ≡ length (piece_bytes before piece) }
@@ -123,6 +149,9 @@ impl<R: Read> LogReader<R> {
             Found::Piece(len) => self.open(len),
             Found::Cut if self.came.is_empty() => self.ended = Some(Ended::Whole),
             Found::Cut => self.ended = Some(Ended::Cut),
+            Found::Altered if ends_in_zeros(&mut self.reader, &mut self.came)? => {
+                self.ended = Some(Ended::Cut);
+            }
             Found::Altered => self.ended = Some(Ended::Altered),
         }
         Ok(())

@@ -5,6 +5,7 @@ ghost use Rattle.chained_log.specs.Log.{piece_bytes, sum_after};
 
 use crate::piece::put_piece;
 use crate::sums::{LONGEST, ROOM};
+use crate::sync::SyncData;
 use std::alloc::{AllocError, Global};
 use std::io;
 use std::io::Write;
@@ -58,5 +59,20 @@ impl<W: Write> Write for LogWriter<W> {
 
     fn flush(&mut self) -> io::Result<()> {
         self.writer.flush()
+    }
+}
+
+impl<W: SyncData> SyncData for LogWriter<W> {
+    ghost use Rattle.std.specs.Prelude.{None};
+
+    ghost synced = { λ _. None };
+
+    /// Syncs the pieces that were written.
+    fn sync(&mut self) -> io::Result<()>
+        ensures ok { OnOk result (Keeps (W.synced self.new.writer) (W.contents self.new.writer)) }
+        ensures kept { Keeps (W.contents self.old.writer) (W.contents self.new.writer) }
+        ensures sum { self.new.sum ≡ self.old.sum }
+    {
+        self.writer.sync()
     }
 }

@@ -13,8 +13,8 @@ use nearby::Nearby;
 use std::alloc::{AllocError, Global};
 use std::marker::Model;
 
-/// Names of commits in places, each with the places of its parents, which stand before it. Contracts see
-/// a list of names, each with those of its parents.
+/// Commits in a list, each with the places of its parents, which are before it. Contracts see a list of names, each
+/// with the names of its parents.
 #[derive(Drop)]
 pub struct Graph {
     placed: IndexMap<Name, Links, Hashing>,
@@ -78,7 +78,7 @@ impl Graph {
         }
     }
 
-    // The links of a commit to these parents, if they stand among the commits.
+    // The links of a commit to these parents, if they are in the list.
     fn links_to(&self, alloc: Global, parents: &[Name]) -> Result<Option<Links>, AllocError>
         ensures names { IfOk result (λ found. IfSome found (λ links. mapped (name_at self.now) (places_listed links) ≡ parents.now)) }
         ensures found { IfOk result (λ found. is_some found ≡ list_all (stands self.now) parents.now) }
@@ -94,7 +94,7 @@ impl Graph {
         Ok(Some(Links::to(places)))
     }
 
-    /// Puts a commit behind the others, if its parents stand among them and it does not.
+    /// Appends a commit, if its parents are in the list and it is not.
     pub fn push(&mut self, alloc: Global, name: Name, parents: &[Name]) -> Result<bool, AllocError>
         ensures told { IfOk result (λ is_pushed. is_pushed ≡ (list_all (stands self.old) parents.now && not (stands self.old name))) }
         ensures pushed { IfOk result (λ is_pushed. OnTrue is_pushed (self.new ≡ self.old ++ (name, parents.now) ∷ [])) }
@@ -107,7 +107,7 @@ impl Graph {
         put_last(&mut self.placed, name, links)
     }
 
-    /// Lets go of a commit, and of those that came later, if it is there.
+    /// Removes a commit, and all after it, if it is in the list.
     pub fn forget(&mut self, name: Name)
         ensures { Forgets name self.old self.new }
     {
@@ -120,7 +120,7 @@ impl Graph {
     }
 }
 
-// Puts a commit behind the others, if it is not there.
+// Appends a commit, if it is not in the list.
 fn put_last(
     placed: &mut IndexMap<Name, Links, Hashing>,
     name: Name,

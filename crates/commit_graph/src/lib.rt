@@ -1,6 +1,5 @@
-//! Commits whose parents are known without reading them again. Each stands behind its parents, so that no
-//! way along parents leads in a circle, and who goes from later places to earlier ones meets each commit
-//! behind all that descend from it.
+//! Commits whose parents are known without reading them again. Each is after its parents, so no path by parents
+//! is a circle, and a walk from later places to earlier ones meets each commit after all its descendants.
 #![tactic(auto)]
 
 mod graph;

@@ -3,8 +3,7 @@ ghost use Rattle.commit_graph.specs.Links.{places_listed};
 
 use std::slice;
 
-// The places of a commit's parents, in the order of these. Most commits have one parent, which takes no
-// memory of its own.
+// The places of a commit's parents, in their order. Most commits have one parent, which needs no memory of its own.
 #[derive(Debug, Drop)]
 pub(crate) enum Links {
     Root,

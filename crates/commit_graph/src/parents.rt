@@ -6,7 +6,7 @@ use git_commit::Commit;
 use git_name::{Kind, Name};
 use std::alloc::{AllocError, Global};
 
-// Most commits have so many parents: room for no more is made before there are more.
+// Most commits have so many parents, so room is first made for no more.
 const USUAL: usize = 1;
 
 /// The names of a commit's parents, in their order.
@@ -20,7 +20,7 @@ pub fn parents_of(alloc: Global, commit: &Commit<'_>) -> Result<Vec<Name>, Alloc
     Ok(names)
 }
 
-/// The same of the commit that an object of this kind and these bytes is; any other object has none.
+/// The same for an object of this kind and these bytes. If it is not a commit, it has none.
 pub fn parent_names(alloc: Global, kind: Kind, bytes: &[u8]) -> Result<Vec<Name>, AllocError>
     ensures { IfOk result (λ names. names.items ≡ parents_in kind bytes.now) }
 {

@@ -1,7 +1,7 @@
 -- Command lines that are written out, as the definitions compute them.
 use Rattle.std.proofs.Common.{◌≡◌, ℕ, Option, Some, None, List, [], ◌∷◌, codes, option_map, refl}
-use Rattle.clap.specs.Words.{Text, fault_of, first_of, subcommand_of}
-use Rattle.clap.specs.declared.error.kind.ErrorKind.TheVariants.{ArgumentConflict, DisplayHelp, DisplayVersion, MissingRequiredArgument, MissingSubcommand, UnknownArgument, ValueValidation}
+use Rattle.clap.specs.Words.{Text, fault_of, first_of, one_of, subcommand_of}
+use Rattle.clap.specs.declared.error.kind.ErrorKind.TheVariants.{ArgumentConflict, DisplayHelp, DisplayVersion, MissingRequiredArgument, MissingSubcommand, TooManyValues, UnknownArgument, ValueValidation}
 use Rattle.clap.proofs.OnLiterals.{clap_on_literals}
 use Rattle.fork_command.specs.Command.{at_once_given, connections_given, tenants_given, type_given}
 use Rattle.fork_command.specs.Table.{table_app}
@@ -97,6 +97,18 @@ none_at_once_is_faulty = refl
 pub more_at_once_are_faulty : fault_of table_app (codes "forkhost" ∷ codes "serve" ∷ codes "--socket=s" ∷ codes "--connections=2" ∷ codes "--at-once=257" ∷ []) ≡ ValueValidation ∷ []
 unfolding clap_on_literals table_app
 more_at_once_are_faulty = refl
+
+pub a_synced_serving_is_asked : option_map (λ p. one_of (codes "sync") p.1) (subcommand_of table_app (codes "forkhost" ∷ codes "serve" ∷ codes "--socket=s" ∷ codes "--connections=2" ∷ codes "--sync" ∷ codes "--dir=d" ∷ [])) ≡ Some (Some (codes "true"))
+unfolding clap_on_literals table_app
+a_synced_serving_is_asked = refl
+
+pub an_unsynced_serving_is_asked : option_map (λ p. one_of (codes "sync") p.1) (subcommand_of table_app (codes "forkhost" ∷ codes "serve" ∷ codes "--socket=s" ∷ codes "--connections=2" ∷ [])) ≡ Some (Some (codes "false"))
+unfolding clap_on_literals table_app
+an_unsynced_serving_is_asked = refl
+
+pub sync_takes_no_value : fault_of table_app (codes "forkhost" ∷ codes "run" ∷ codes "--sync=yes" ∷ []) ≡ TooManyValues ∷ []
+unfolding clap_on_literals table_app
+sync_takes_no_value = refl
 
 pub check_is_asked : option_map {U = Text × Option Text} (λ p. (p.0, first_of (codes "dir") p.1)) (subcommand_of table_app (codes "forkhost" ∷ codes "check" ∷ codes "--dir" ∷ codes "d" ∷ [])) ≡ Some (codes "check", Some (codes "d"))
 unfolding clap_on_literals table_app

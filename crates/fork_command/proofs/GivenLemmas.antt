@@ -1,6 +1,6 @@
 -- An argument that is set has a first value, and its parser took it.
 use Rattle.std.proofs.Common.{◌≡◌, ◌∙◌, ◌&&◌, length, ◌||◌, not, Bool, true, false, List, [], ◌∷◌, ◌++◌, Option, Some, None, if◌then◌else◌, refl, sym, subst, ap, IfSome}
-use Rattle.std.specs.Prelude.{find}
+use Rattle.std.specs.Prelude.{find, fold}
 use Rattle.std.specs.List.{list_all}
 use Rattle.std.specs.Str.{bytes_eq}
 use Rattle.std.proofs.lemmas.Slice.Eq.{bytes_eq-Decides}
@@ -9,13 +9,14 @@ use Rattle.clap.specs.Kinds.{range_kinds}
 use Rattle.clap.specs.ValueTests.{accepts}
 use Rattle.clap.specs.Facts.{parser_of_value, unwrap_or_range}
 use Rattle.clap.specs.Faults.{action_fault, repeat_fault, set_fault, use_fault}
-use Rattle.clap.specs.Walk.{action_of, at_row, has_row, more_values, most_values, reading_by, used, used_as, with_values, without}
+use Rattle.clap.specs.Walk.{action_of, at_row, default_rows, has_row, more_values, most_values, reading_by, used, used_as, with_default, with_values, without}
 use Rattle.clap.specs.declared.builder.value_parser.Reading.{Reading}
 use Rattle.clap.specs.declared.builder.action.ArgAction.{ArgAction}
 use Rattle.clap.specs.declared.builder.action.ArgAction.TheVariants.{Set, Append, SetTrue, SetFalse, Count, Help, HelpShort, HelpLong, Version}
 use Rattle.clap.specs.declared.error.kind.ErrorKind.{ErrorKind}
 use Rattle.clap.specs.declared.error.kind.ErrorKind.TheVariants.{ArgumentConflict}
-use Rattle.clap.specs.declared.parser.matches.ValueSource.TheVariants.{CommandLine}
+use Rattle.clap.specs.declared.parser.matches.ValueSource.{ValueSource}
+use Rattle.clap.specs.declared.parser.matches.ValueSource.TheVariants.{CommandLine, DefaultValue}
 use Rattle.clap.proofs.SimpleLemmas.{is_false}
 use Rattle.clap.proofs.WalkLemmas.{both}
 use Rattle.fork_command.proofs.KeptLemmas.{Keeps, or_else_first, or_else_last}
@@ -45,20 +46,21 @@ other_row id other change missing (r ∷ rs) apart on none = go (bytes_eq r.id i
         on r rs differs ∙ ap (λ (t : Bool). if t then Some r else row_at other rs) (sym differs)
     go false same rest = ap (λ (o : Option Row). if bytes_eq r.id other then Some r else o) rest
 
-other_values : (id other : Text) (how : Reading) (values : List Text) (rows : List Row) → bytes_eq id other ≡ false → row_at other (with_values id how CommandLine values rows) ≡ row_at other rows
-other_values id other how values rows apart =
-    other_row id other (more_values CommandLine values) _ rows apart (λ r rs differs. past (bytes_eq r.id other) _ (row_at other rs) differs) (past (bytes_eq id other) _ None apart)
+other_values : (source : ValueSource) (id other : Text) (how : Reading) (values : List Text) (rows : List Row) → bytes_eq id other ≡ false → row_at other (with_values id how source values rows) ≡ row_at other rows
+other_values source id other how values rows apart =
+    other_row id other (more_values source values) _ rows apart (λ r rs differs. past (bytes_eq r.id other) _ (row_at other rs) differs) (past (bytes_eq id other) _ None apart)
 
 other_without : (id other : Text) (rows : List Row) → bytes_eq id other ≡ false → row_at other (without id rows) ≡ row_at other rows
 other_without id other rows apart = other_row id other (λ _. []) [] rows apart (λ r rs differs. refl) refl
 
 other_set : (id other : Text) (how : Reading) (values : List Text) (rows : List Row) → bytes_eq id other ≡ false
     → row_at other (with_values id how CommandLine values (without id rows)) ≡ row_at other rows
-other_set id other how values rows apart = other_values id other how values (without id rows) apart ∙ other_without id other rows apart
+other_set id other how values rows apart = other_values CommandLine id other how values (without id rows) apart ∙ other_without id other rows apart
 
--- the actions of this table: an argument is set, is added to, or asks for help
+-- the actions of this table: an argument is set, is a flag, is added to, or asks for help
 abbrev pub is_of_table : ArgAction → Bool
 is_of_table Set = true
+is_of_table SetTrue = true
 is_of_table Append = true
 is_of_table Help = true
 is_of_table _ = false
@@ -66,9 +68,9 @@ is_of_table _ = false
 other_used : (x : ArgAction) (id other : Text) (how : Reading) (values : List Text) (rows : List Row) → is_of_table x ≡ true → bytes_eq id other ≡ false
     → row_at other (used_as x id how values rows) ≡ row_at other rows
 other_used Set id other how values rows known apart = other_set id other how values rows apart
-other_used Append id other how values rows known apart = other_values id other how values rows apart
+other_used Append id other how values rows known apart = other_values CommandLine id other how values rows apart
 other_used Help id other how values rows known apart = refl
-other_used SetTrue id other how values rows known apart = absurd (cc)
+other_used SetTrue id other how values rows known apart = other_set id other how values rows apart
 other_used SetFalse id other how values rows known apart = absurd (cc)
 other_used Count id other how values rows known apart = absurd (cc)
 other_used HelpShort id other how values rows known apart = absurd (cc)
@@ -78,6 +80,27 @@ other_used Version id other how values rows known apart = absurd (cc)
 -- a use of another argument keeps what holds
 pub other_keeps : (s : Shape) (a : Rule) (id : Text) (Q : Row → Type 0) → is_of_table (action_of a) ≡ true → bytes_eq a.id id ≡ false → Keeps s (Holds id Q) (Some a)
 other_keeps s a id Q known apart = λ values rows held none. subst (λ (o : Option Row). IfSome o Q) (sym (other_used (action_of a) a.id id (reading_by a) _ rows known apart)) held
+
+-- no values
+abbrev pub is_none : List Text → Bool
+is_none [] = true
+is_none (v ∷ vs) = false
+
+-- defaults of other arguments keep it too
+one_default : (id : Text) (Q : Row → Type 0) (other : Text) (how : Reading) (values : List Text) (rows : List Row) → (is_none values || not (bytes_eq other id)) ≡ true → Holds id Q rows → Holds id Q (default_rows other how values rows)
+one_default id Q other how [] rows fine held = held
+one_default id Q other how (v ∷ vs) rows fine held =
+    subst (λ (o : Option Row). IfSome o Q) (sym (other_values DefaultValue other id how (v ∷ vs) rows (is_false (bytes_eq other id) fine))) held
+
+pub defaults_keep : (id : Text) (Q : Row → Type 0) (c : List Rule) → list_all (λ a. is_none a.defaults || not (bytes_eq a.id id)) c ≡ true → (rows : List Row) → Holds id Q rows → Holds id Q (fold with_default rows c)
+defaults_keep id Q [] all rows held = held
+defaults_keep id Q (a ∷ c) all rows held =
+    let each = both (is_none a.defaults || not (bytes_eq a.id id)) (list_all (λ b. is_none b.defaults || not (bytes_eq b.id id)) c) all in
+    defaults_keep id Q c each.1 (with_default rows a) (go (has_row a.id rows) (one_default id Q a.id (reading_by a) a.defaults rows each.0 held))
+  where
+    go : (t : Bool) → Holds id Q (default_rows a.id (reading_by a) a.defaults rows) → Holds id Q (if t then rows else default_rows a.id (reading_by a) a.defaults rows)
+    go true changed = held
+    go false changed = changed
 
 neither : (a b : Bool) → (a || b) ≡ false → (a ≡ false) × (b ≡ false)
 neither false b none = (refl, none)

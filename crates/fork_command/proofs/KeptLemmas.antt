@@ -1,5 +1,5 @@
 -- A walk in which `clap` finds no fault keeps what each use of an argument keeps of the rows.
-use Rattle.std.proofs.Common.{◌≡◌, ◌∙◌, ◌&&◌, ap, ℕ, zero, suc, Bool, true, false, List, [], ◌∷◌, Option, Some, None, is_some, if◌then◌else◌, length, not, drop, refl, sym, subst, slice_get}
+use Rattle.std.proofs.Common.{◌≡◌, ◌&&◌, ℕ, zero, suc, Bool, true, false, List, [], ◌∷◌, Option, Some, None, is_some, if◌then◌else◌, length, not, drop, refl, sym, subst, slice_get}
 use Rattle.std.specs.Prelude.{encode_utf8, find, fold}
 use Rattle.std.specs.Option.{option_map_or}
 use Rattle.std.specs.Str.{bytes_eq, chars}
@@ -7,10 +7,7 @@ use Rattle.clap.specs.Words.{Kinds, Row, Rule, Shape, Text}
 use Rattle.clap.specs.Kinds.{or_else}
 use Rattle.clap.specs.Lexer.{long_of, short_of}
 use Rattle.clap.specs.Faults.{bundle_fault, bundle_step_fault, flag_word_fault, flags_fault, level_fault, long_fault, option_fault, other_fault, positional_fault, react_fault, settle_fault, short_fault, step_fault, stray_fault, turn_fault, use_fault, walk_fault, word_fault}
-use Rattle.clap.specs.Walk.{Held, Names, Outcome, Step, Waiting, Walk, after_flag, after_step, arg_by_id, arg_by_index, arg_by_long, arg_by_short, attached_value, bundle_met, bundle_step, default_rows, done, flag_met, has_row, has_long, has_short, idle, is_pending, long_met, long_or_other, next, nothing_held, option, option_met, option_word, plain, plain_word, positional, pushed, reacted, reading_by, refused, rows_after, settled, settled_rows, short_met, short_or_plain, subcommand, subcommand_met, subcommand_or_other, takes_several, takes_values, to_positional, trailing, used, used_by_id, value, waits, walk, walk_from, walked, walked_from, with_default, word_met, is_empty}
-use Rattle.std.specs.List.{list_all}
-use Rattle.clap.proofs.SimpleLemmas.{is_nil}
-use Rattle.clap.proofs.WalkLemmas.{both}
+use Rattle.clap.specs.Walk.{Held, Names, Outcome, Step, Waiting, Walk, after_flag, after_step, arg_by_id, arg_by_index, arg_by_long, arg_by_short, attached_value, bundle_met, bundle_step, done, flag_met, has_long, has_short, idle, is_pending, long_met, long_or_other, next, nothing_held, option, option_met, option_word, plain, plain_word, positional, pushed, reacted, refused, rows_after, settled, settled_rows, short_met, short_or_plain, subcommand, subcommand_met, subcommand_or_other, takes_several, takes_values, to_positional, trailing, used, used_by_id, value, waits, walk, walk_from, walked, walked_from, with_default, word_met}
 use Rattle.clap.specs.declared.error.kind.ErrorKind.TheVariants.{TooManyValues}
 
 pub or_else_first : (a b : Kinds) → or_else a b ≡ [] → a ≡ []
@@ -36,20 +33,6 @@ after_same c waiting word h done = refl
 after_same c waiting word h (waits id) = refl
 after_same c waiting word h plain = plain_same c waiting word h
 after_same c waiting word h refused = plain_same c waiting word h
-
--- arguments without defaults add no row at the end
-default_none : (rows : List Row) (a : Rule) → a.defaults ≡ [] → with_default rows a ≡ rows
-default_none rows a none = go (has_row a.id rows)
-  where
-    go : (t : Bool) → (if t then rows else default_rows a.id (reading_by a) a.defaults rows) ≡ rows
-    go true = refl
-    go false = ap (λ (values : List Text). default_rows a.id (reading_by a) values rows) none
-
-pub no_defaults : (c : List Rule) (rows : List Row) → list_all (λ a. is_empty a.defaults) c ≡ true → fold with_default rows c ≡ rows
-no_defaults [] rows all = refl
-no_defaults (a ∷ c) rows all =
-    let each = both (is_empty a.defaults) (list_all (λ b. is_empty b.defaults) c) all in
-    ap (λ (r : List Row). fold with_default r c) (default_none rows a (is_nil a.defaults each.0)) ∙ no_defaults c rows each.1
 
 module _ (s : Shape) (P : List Row → Type 0) where
   -- a use of the argument without a fault keeps P
@@ -177,10 +160,10 @@ module _ (s : Shape) (P : List Row → Type 0) where
       walk_keeps each names (walked s.rules names w word) rest (turn_keeps each names w word held (or_else_first _ _ none)) (or_else_last (turn_fault s names w word) _ none)
 
   -- a level of the parse without a fault keeps P to its end
-  pub level_keeps : EachKeeps → (names : Names) (words : List Text) (has : Bool) (below : Kinds) → list_all (λ a. is_empty a.defaults) s.rules ≡ true → P [] → level_fault s names nothing_held words has below ≡ []
+  pub level_keeps : EachKeeps → (names : Names) (words : List Text) (has : Bool) (below : Kinds) → ((rows : List Row) → P rows → P (fold with_default rows s.rules)) → P [] → level_fault s names nothing_held words has below ≡ []
       → P (rows_after s.rules names words)
-  level_keeps each names words has below plain_rules start none =
+  level_keeps each names words has below defaults start none =
       let end = (walk s.rules names nothing_held words).held in
       let past = or_else_last below _ (or_else_last (walk_fault s names (walk_from nothing_held) words) _ none) in
       let held = settled_keeps each end (walk_keeps each names (walk_from nothing_held) words start (or_else_first _ _ none)) (or_else_first _ _ past) in
-      subst P (sym (no_defaults s.rules (settled s.rules end).rows plain_rules)) held
+      defaults (settled s.rules end).rows held

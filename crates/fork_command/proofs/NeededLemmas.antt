@@ -12,7 +12,7 @@ use Rattle.clap.specs.declared.builder.value_parser.ValueParser.TheVariants.{Sig
 use Rattle.clap.proofs.ValueTestLemmas.{accepts-Accepts}
 use Rattle.fork_command.specs.Command.{HasServeWords, HasTenantWords, IsPlaces}
 use Rattle.fork_command.specs.Table.{at_once_rule, connections_rule, folder_app, needed_rule, serve_app, table_app, tenant_app, word_rule}
-use Rattle.fork_command.proofs.GivenLemmas.{Holds, found_keeps, other_keeps, others_keep, own_keeps, row_at}
+use Rattle.fork_command.proofs.GivenLemmas.{Holds, defaults_keep, found_keeps, other_keeps, others_keep, own_keeps, row_at}
 use Rattle.fork_command.proofs.KeptLemmas.{EachKeeps, level_keeps, or_else_first, or_else_last}
 
 -- the subcommand as it stands in the table
@@ -125,13 +125,13 @@ serve_words words none =
     let s = standing serve_app in
     let rows = rows_after s.rules [] words in
     let given = two_given (is_given (codes "socket") rows) (is_given (codes "connections") rows) (level_last s [] words false [] none) in
-    let number = number_there (row_at (codes "connections") rows) given.1 (level_keeps s (Holds (codes "connections") HasNumber) connections_kept [] words false [] refl tt none) in
+    let number = number_there (row_at (codes "connections") rows) given.1 (level_keeps s (Holds (codes "connections") HasNumber) connections_kept [] words false [] (defaults_keep (codes "connections") HasNumber s.rules refl) tt none) in
     record {
-      socket = value_given (row_at (codes "socket") rows) given.0 (level_keeps s (Holds (codes "socket") HasValue) socket_kept [] words false [] refl tt none);
+      socket = value_given (row_at (codes "socket") rows) given.0 (level_keeps s (Holds (codes "socket") HasValue) socket_kept [] words false [] (defaults_keep (codes "socket") HasValue s.rules refl) tt none);
       text = number.0;
       connections = number.1;
       number = number.2;
-      at_once = places_there (row_at (codes "at-once") rows) (level_keeps s (Holds (codes "at-once") HasPlaces) at_once_kept [] words false [] refl tt none);
+      at_once = places_there (row_at (codes "at-once") rows) (level_keeps s (Holds (codes "at-once") HasPlaces) at_once_kept [] words false [] (defaults_keep (codes "at-once") HasPlaces s.rules refl) tt none);
     }
 
 pub folder_words : (name : Text) (words : List Text) → level_fault (standing (folder_app name)) [] nothing_held words false [] ≡ [] → is_some (first_of (codes "dir") (rows_after (standing (folder_app name)).rules [] words)) ≡ true
@@ -139,7 +139,7 @@ unfolding table_app
 folder_words name words none =
     let s = standing (folder_app name) in
     let rows = rows_after s.rules [] words in
-    value_given (row_at (codes "dir") rows) (one_given (is_given (codes "dir") rows) (level_last s [] words false [] none)) (level_keeps s (Holds (codes "dir") HasValue) (dir_kept name) [] words false [] refl tt none)
+    value_given (row_at (codes "dir") rows) (one_given (is_given (codes "dir") rows) (level_last s [] words false [] none)) (level_keeps s (Holds (codes "dir") HasValue) (dir_kept name) [] words false [] (defaults_keep (codes "dir") HasValue s.rules refl) tt none)
 
 tenant_dir_kept : (name : Text) → EachKeeps (standing (tenant_app name)) (Holds (codes "dir") HasValue)
 unfolding table_app
@@ -163,6 +163,6 @@ tenant_words name words none =
     let rows = rows_after s.rules [] words in
     let given = two_given (is_given (codes "dir") rows) (is_given (codes "tenant") rows) (level_last s [] words false [] none) in
     record {
-      dir = value_given (row_at (codes "dir") rows) given.0 (level_keeps s (Holds (codes "dir") HasValue) (tenant_dir_kept name) [] words false [] refl tt none);
-      tenant = value_given (row_at (codes "tenant") rows) given.1 (level_keeps s (Holds (codes "tenant") HasValue) (tenant_kept name) [] words false [] refl tt none);
+      dir = value_given (row_at (codes "dir") rows) given.0 (level_keeps s (Holds (codes "dir") HasValue) (tenant_dir_kept name) [] words false [] (defaults_keep (codes "dir") HasValue s.rules refl) tt none);
+      tenant = value_given (row_at (codes "tenant") rows) given.1 (level_keeps s (Holds (codes "tenant") HasValue) (tenant_kept name) [] words false [] (defaults_keep (codes "tenant") HasValue s.rules refl) tt none);
     }

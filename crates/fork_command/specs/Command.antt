@@ -31,9 +31,15 @@ connections_given rows = option_map (λ text. digits_value 10 (without_leading_p
 abbrev pub at_once_given : List Row → Option ℕ
 at_once_given rows = option_map (λ text. digits_value 10 (without_leading_plus text)) (one_of (codes "at-once") rows)
 
--- what is hosted: the folder given by `--dir`, if any, and the tenants
+-- whether `--sync` is given, as `clap` reads it
+pub record IsSyncing (rows : List Row) (syncs : Bool) : Type 0 where
+  pub given : one_of (codes "sync") rows ≡ Some (codes "true") → syncs ≡ true
+  pub omitted : one_of (codes "sync") rows ≡ Some (codes "false") → syncs ≡ false
+
+-- what is hosted: the folder given by `--dir`, if any, whether it is synced, and the tenants
 pub record IsHosting (rows : List Row) (hosting : Hosting) : Type 0 where
   pub dir : option_map (λ dir. dir.now) hosting.dir ≡ first_of (codes "dir") rows
+  pub syncs : IsSyncing rows hosting.syncs
   pub tenants : AreGrants hosting.tenants.items (tenants_given rows)
 
 -- what `serve` is asked for

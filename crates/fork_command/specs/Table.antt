@@ -1,7 +1,7 @@
 -- What the command line takes (own), as `clap` reads it.
 use Rattle.std.specs.Prelude.{codes, pos, Some, true}
 use Rattle.clap.specs.Words.{App, Rule, Text, new_app, new_rule, with_rule, with_subcommand}
-use Rattle.clap.specs.declared.builder.ArgAction.TheVariants.{Set, Append}
+use Rattle.clap.specs.declared.builder.ArgAction.TheVariants.{Set, SetTrue, Append}
 use Rattle.clap.specs.declared.builder.value_parser.ValueParser.TheVariants.{Signed}
 
 -- `--NAME VALUE`, at most once
@@ -20,6 +20,10 @@ connections_rule = record (needed_rule (codes "connections")) { parser = Some (S
 abbrev pub at_once_rule : Rule
 at_once_rule = record (option_rule (codes "at-once")) { parser = Some (Signed (pos 1) (pos 256)) }
 
+-- `--sync`
+abbrev pub sync_rule : Rule
+sync_rule = record (new_rule (codes "sync")) { long = Some (codes "sync"); action = Some SetTrue }
+
 -- a required word at its place
 abbrev pub word_rule : Text → Rule
 word_rule name = record (new_rule name) { action = Some Set; value_names = 1; required = true }
@@ -32,17 +36,17 @@ tenants_rule = record (new_rule (codes "tenants")) { action = Some Append; value
 abbrev pub hash_object_app : App
 hash_object_app = with_rule (new_app (codes "hash-object")) (option_rule (codes "type"))
 
--- `run [--dir PATH] [TENANT=LIMIT ..]`
+-- `run [--dir PATH] [--sync] [TENANT=LIMIT ..]`
 abbrev pub run_app : App
-run_app = with_rule (with_rule (new_app (codes "run")) (option_rule (codes "dir"))) tenants_rule
+run_app = with_rule (with_rule (with_rule (new_app (codes "run")) (option_rule (codes "dir"))) sync_rule) tenants_rule
 
 -- `serve --socket PATH --connections N [--at-once M]`
 abbrev pub listening_app : App
 listening_app = with_rule (with_rule (with_rule (new_app (codes "serve")) (needed_rule (codes "socket"))) connections_rule) at_once_rule
 
--- the same with `[--dir PATH] [TENANT=LIMIT ..]`
+-- the same with `[--dir PATH] [--sync] [TENANT=LIMIT ..]`
 abbrev pub serve_app : App
-serve_app = with_rule (with_rule listening_app (option_rule (codes "dir"))) tenants_rule
+serve_app = with_rule (with_rule (with_rule listening_app (option_rule (codes "dir"))) sync_rule) tenants_rule
 
 -- a subcommand that takes a folder, `--dir PATH`
 abbrev pub folder_app : Text → App

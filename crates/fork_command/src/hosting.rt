@@ -14,6 +14,8 @@ use std::alloc::Global;
 pub struct Hosting<'a> {
     /// The folder that keeps the host, as written; without one the host is kept only in memory.
     pub dir: Option<&'a str>,
+    /// Whether each reply waits until what it tells of is synced in the folder.
+    pub syncs: bool,
     /// The tenants to add, in the order of the words.
     pub tenants: Vec<Grant>,
 }
@@ -38,6 +40,11 @@ pub(crate) fn hosting_of<'a>(
     ensures err { IfErr result (IsBadGrant (tenants_given (rows_of (found_of matches.entry.now)))) }
 {
     let dir = matches.get_str("dir");
+    let syncs = matches.get_flag("sync");
     let tenants = tenants_of(alloc, matches)?;
-    Ok(Hosting { dir, tenants })
+    Ok(Hosting {
+        dir,
+        syncs,
+        tenants,
+    })
 }

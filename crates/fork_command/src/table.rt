@@ -2,7 +2,7 @@ ghost use Rattle.std.specs.Prelude.{◌≡◌, IfOk, codes, false};
 ghost use Rattle.clap.specs.Walk.{rule_of};
 ghost use Rattle.clap.specs.Words.{app_of};
 ghost use Rattle.clap.specs.declared.builder.command.Command.TheViews.{out-Command};
-ghost use Rattle.fork_command.specs.Table.{at_once_rule, connections_rule, folder_app, hash_object_app, listening_app, needed_rule, option_rule, run_app, serve_app, serving_app, table_app, tenant_app, tenants_rule, word_rule};
+ghost use Rattle.fork_command.specs.Table.{at_once_rule, connections_rule, folder_app, hash_object_app, listening_app, needed_rule, option_rule, run_app, serve_app, serving_app, sync_rule, table_app, tenant_app, tenants_rule, word_rule};
 
 use clap::{Arg, ArgAction, Command, value_parser};
 use std::alloc::{AllocError, Global};
@@ -35,6 +35,16 @@ fn dir<'a>(alloc: Global) -> Arg<'a>
         .action(ArgAction::Set)
 }
 
+fn sync<'a>(alloc: Global) -> Arg<'a>
+    ensures rule { rule_of result ≡ sync_rule }
+    ensures local { result.global ≡ false }
+{
+    Arg::new(alloc, "sync")
+        .long("sync")
+        .help("Sync each request that changed the host before its reply goes out")
+        .action(ArgAction::SetTrue)
+}
+
 fn tenants<'a>(alloc: Global) -> Arg<'a>
     ensures rule { rule_of result ≡ tenants_rule }
     ensures local { result.global ≡ false }
@@ -52,6 +62,7 @@ fn run<'a>(alloc: Global) -> Result<Command<'a>, AllocError>
     Command::new(alloc, "run")
         .about("Serve request frames from standard input to standard output")
         .arg(dir(alloc))?
+        .arg(sync(alloc))?
         .arg(tenants(alloc))
 }
 
@@ -110,7 +121,10 @@ fn serve<'a>(alloc: Global) -> Result<Command<'a>, AllocError>
     ensures table { IfOk result (λ c. app_of c ≡ serve_app) }
     ensures local { IfOk result (λ c. (out-Command c).has_globals ≡ false) }
 {
-    listening(alloc)?.arg(dir(alloc))?.arg(tenants(alloc))
+    listening(alloc)?
+        .arg(dir(alloc))?
+        .arg(sync(alloc))?
+        .arg(tenants(alloc))
 }
 
 // A subcommand that takes a folder.

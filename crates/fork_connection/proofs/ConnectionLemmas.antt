@@ -2,7 +2,7 @@
 use Rattle.std.proofs.Common.{Bool, true, false, ◌≡◌, ℕ, ◌+◌, ◌<◌, List, [], ◌∷◌, ◌++◌, length, Option, Result, Ok, Err, refl, sym, ap, ◌∙◌, subst, arith}
 use Rattle.std.specs.Prelude.{OnOk}
 use Rattle.std.specs.Io.KnownBytes.{Consumes}
-use Rattle.std.proofs.lemmas.List.{length-append}
+use Rattle.std.proofs.lemmas.List.{append-nil, length-append}
 use Rattle.fork_request.specs.Told.{bytes_of}
 use Rattle.fork_frame.specs.declared.ended.Ended.TheVariants.{BadFrame}
 use Rattle.fork_frame.specs.declared.frame.Frame.{Frame}
@@ -14,7 +14,7 @@ use Rattle.fork_connection.specs.declared.connection.TurnFault.{TurnFault}
 use Rattle.fork_connection.specs.declared.connection.TurnFault.TheVariants.{Broken, Lost}
 use Rattle.fork_connection.specs.declared.inbox.TheConstants.{LONGEST_FRAME}
 use Rattle.fork_connection.specs.Inbox.{IsPart, OfLine, OfPayload}
-use Rattle.fork_connection.specs.Turns.{Act, Acts, Answered, Answers, Chain, IsExchange, IsSent, IsTurn, LeadsTo, Loses, NoFrameComes, Peer, Reads, Refuses, Replies, Talk, Writes, asked, is_loss, peer_of}
+use Rattle.fork_connection.specs.Turns.{Act, Acts, Answered, Answers, Chain, IsExchange, IsSent, IsTurn, LeadsTo, Loses, NoFrameComes, Peer, Reads, Refuses, Replies, Talk, Writes, asked, is_loss, peer_of, sent}
 
 -- while a frame is to come there is room for it
 pub part_has_room : (pending : List ℕ) → IsPart pending → length pending < LONGEST_FRAME
@@ -26,20 +26,7 @@ part_has_room pending (OfPayload line text payload right short parts) =
     omega arith
 
 pub breaks : (old new : Peer) → IsExchange old new (Err Broken)
-breaks old new = record { acts = []; left = old; does = refl; none = refl; found = refl; stays = tt }
-
--- what waits is written
-pub sends : (left before after : Option (List ℕ)) (old new : Talk) (result : Result Turn TurnFault) → new.pending ≡ old.pending → is_loss result ≡ false → IsSent old.waiting new.waiting before after
-    → IsExchange (peer_of left before old) (peer_of left after new) result
-sends left before after old new (Ok turn) same found sent = record {
-  acts = Writes sent.gone ∷ [];
-  left = peer_of left after new;
-  does = (peer_of left after new, (sent.written, sent.parts, same, refl), refl);
-  none = refl;
-  found = refl;
-  stays = refl;
-}
-sends left before after old new (Err fault) same found sent = record { acts = []; left = peer_of left before old; does = refl; none = refl; found = found; stays = tt }
+breaks old new = record { acts = []; left = old; does = refl; none = refl; unsent = refl; found = refl; stays = tt }
 
 -- bytes are read
 pub reads : (left now out : Option (List ℕ)) (old new : Talk) (turn : Turn) (more : List ℕ) → Consumes left now more → new.pending ≡ old.pending ++ more → new.waiting ≡ old.waiting
@@ -49,31 +36,33 @@ reads left now out old new turn more taken pending waiting = record {
   left = peer_of now out new;
   does = (peer_of now out new, (taken, pending, waiting, refl), refl);
   none = refl;
+  unsent = refl;
   found = refl;
   stays = refl;
 }
 
--- the last line goes out
-pub refuses : (left before after : Option (List ℕ)) (old new : Talk) (result : Result Turn TurnFault) → NoFrameComes (peer_of left before old) → old.waiting ≡ [] → new.pending ≡ old.pending
-    → is_loss result ≡ false → OnOk result (IsSent (last_line BadFrame) new.waiting before after) → IsExchange (peer_of left before old) (peer_of left after new) result
-refuses left before after old new (Ok turn) none nothing same found sent = record {
-  acts = Refuses ∷ Writes sent.gone ∷ [];
-  left = peer_of left after new;
-  does = (
-    record { left = left; out = before; pending = old.pending; waiting = last_line BadFrame },
-    (none, nothing, refl, refl, refl, refl),
-    (peer_of left after new, (sent.written, sent.parts, same, refl), refl),
-  );
+-- the last line waits
+pub refuses : (left out : Option (List ℕ)) (old new : Talk) (result : Result Turn TurnFault) → NoFrameComes (peer_of left out old) → old.waiting ≡ [] → new.pending ≡ old.pending
+    → is_loss result ≡ false → OnOk result (new.waiting ≡ last_line BadFrame) → IsExchange (peer_of left out old) (peer_of left out new) result
+refuses left out old new (Ok turn) none nothing same found told = record {
+  acts = Refuses ∷ [];
+  left = peer_of left out new;
+  does = (peer_of left out new, (none, nothing, told, same, refl, refl), refl);
   none = refl;
+  unsent = refl;
   found = refl;
   stays = refl;
 }
-refuses left before after old new (Err fault) none nothing same found sent = record { acts = []; left = peer_of left before old; does = refl; none = refl; found = found; stays = tt }
+refuses left out old new (Err fault) none nothing same found told = record { acts = []; left = peer_of left out old; does = refl; none = refl; unsent = refl; found = found; stays = tt }
 
 -- one exchange after another
 acts_append : (old mid new : Peer) (acts more : List Act) → Acts old acts mid → Acts mid more new → Acts old (acts ++ more) new
 acts_append old mid new [] more same then = subst (λ (p : Peer). Acts p more new) (sym same) then
 acts_append old mid new (act ∷ acts) more (next, does, rest) then = (next, does, acts_append next mid new acts more rest then)
+
+nil_front : (xs ys : List ℕ) → xs ++ ys ≡ [] → xs ≡ []
+nil_front [] ys is = refl
+nil_front (x ∷ xs) ys is = (let none : length (x ∷ (xs ++ ys)) ≡ 0 = ap (λ (l : List ℕ). length l) is in absurd (omega arith))
 
 asked_append : (acts more : List Act) → asked acts ≡ [] → asked more ≡ [] → asked (acts ++ more) ≡ []
 asked_append [] more none other = other
@@ -85,12 +74,22 @@ asked_append (Answers frame reply ∷ acts) more none other = absurd (some frame
     some f fs is = let none : length (f ∷ fs) ≡ 0 = ap (λ (l : List Frame). length l) is in absurd (omega arith)
 asked_append (Refuses ∷ acts) more none other = asked_append acts more none other
 
+sent_append : (acts more : List Act) → sent acts ≡ [] → sent more ≡ [] → sent (acts ++ more) ≡ []
+sent_append [] more none other = other
+sent_append (Reads bytes ∷ acts) more none other = sent_append acts more none other
+sent_append (Writes bytes ∷ acts) more none other =
+    let front : bytes ≡ [] = nil_front bytes (sent acts) none in
+    ap (λ b. b ++ sent (acts ++ more)) front ∙ sent_append acts more (sym (ap (λ b. b ++ sent acts) front) ∙ none) other
+sent_append (Answers frame reply ∷ acts) more none other = sent_append acts more none other
+sent_append (Refuses ∷ acts) more none other = sent_append acts more none other
+
 pub then : (old mid new : Peer) (turn : Turn) (result : Result Turn TurnFault) → IsExchange old mid (Ok turn) → IsExchange mid new result → IsExchange old new result
 then old mid new turn result one two = record {
   acts = one.acts ++ two.acts;
   left = two.left;
   does = acts_append old mid two.left one.acts two.acts (subst (λ (p : Peer). Acts old one.acts p) one.stays one.does) two.does;
   none = asked_append one.acts two.acts one.none two.none;
+  unsent = sent_append one.acts two.acts one.unsent two.unsent;
   found = two.found;
   stays = two.stays;
 }
@@ -118,38 +117,72 @@ module _ {H : Type 0} where
     does = exchange.does;
     leads = led answered lost before after exchange.acts (is_loss result) exchange.found (quiet answered before after exchange.acts exchange.none same);
     few = (let size : length (asked exchange.acts) ≡ 0 = ap (λ (l : List Frame). length l) exchange.none in omega arith);
+    late = (old.waiting, ap (λ b. b ++ old.waiting) (sym exchange.unsent));
     stays = exchange.stays;
   }
 
   -- a turn with one
-  pub answers : (answered : Answered H) (lost : Loses H) (host next : H) (frame : Frame) (left before after : Option (List ℕ)) (old new : Talk) (result : Result Turn TurnFault)
-      → old.waiting ≡ [] → IsFrame frame → old.pending ≡ frame_bytes frame ++ new.pending → Replies answered lost host next frame new.waiting before after result
-      → IsTurn answered lost host next (peer_of left before old) (peer_of left after new) result
-  answers answered lost host next frame left before after old new (Ok turn) nothing right parts replied = record {
-    acts = Answers frame replied.reply ∷ Writes replied.sent.gone ∷ [];
-    left = peer_of left after new;
-    does = (
-      record { left = left; out = before; pending = new.pending; waiting = reply_frame (bytes_of replied.reply) },
-      (right, nothing, parts, refl, refl, refl),
-      (peer_of left after new, (replied.sent.written, replied.sent.parts, refl, refl), refl),
-    );
+  pub answers : (answered : Answered H) (lost : Loses H) (host next : H) (frame : Frame) (left out : Option (List ℕ)) (old new : Talk) (result : Result Turn TurnFault)
+      → old.waiting ≡ [] → IsFrame frame → old.pending ≡ frame_bytes frame ++ new.pending → Replies answered lost host next frame new.waiting result
+      → IsTurn answered lost host next (peer_of left out old) (peer_of left out new) result
+  answers answered lost host next frame left out old new (Ok turn) nothing right parts replied = record {
+    acts = Answers frame replied.reply ∷ [];
+    left = peer_of left out new;
+    does = (peer_of left out new, (right, nothing, parts, replied.waits, refl, refl), refl);
     leads = (next, replied.is, refl);
     few = omega arith;
+    late = (old.waiting, refl);
     stays = refl;
   }
-  answers answered lost host next frame left before after old new (Err Broken) nothing right parts replied = record {
+  answers answered lost host next frame left out old new (Err Broken) nothing right parts replied = record {
     acts = Answers frame replied.reply ∷ [];
-    left = record { left = left; out = before; pending = new.pending; waiting = reply_frame (bytes_of replied.reply) };
-    does = (record { left = left; out = before; pending = new.pending; waiting = reply_frame (bytes_of replied.reply) }, (right, nothing, parts, refl, refl, refl), refl);
+    left = record { left = left; out = out; pending = new.pending; waiting = reply_frame (bytes_of replied.reply) };
+    does = (record { left = left; out = out; pending = new.pending; waiting = reply_frame (bytes_of replied.reply) }, (right, nothing, parts, refl, refl, refl), refl);
     leads = (next, replied.is, refl);
     few = omega arith;
+    late = (old.waiting, refl);
     stays = tt;
   }
-  answers answered lost host next frame left before after old new (Err Lost) nothing right parts replied = record {
+  answers answered lost host next frame left out old new (Err Lost) nothing right parts replied = record {
     acts = [];
-    left = peer_of left before old;
+    left = peer_of left out old;
     does = refl;
     leads = record { mid = host; chain = refl; frame = frame; right = right; is = replied };
     few = omega arith;
+    late = (old.waiting, refl);
     stays = tt;
   }
+
+  -- what waits is written
+  pub sends : (answered : Answered H) (lost : Loses H) (host : H) (left before after : Option (List ℕ)) (old new : Talk) (result : Result Turn TurnFault) → new.pending ≡ old.pending → is_loss result ≡ false → IsSent old.waiting new.waiting before after
+      → IsTurn answered lost host host (peer_of left before old) (peer_of left after new) result
+  sends answered lost host left before after old new (Ok turn) same found went = record {
+    acts = Writes went.gone ∷ [];
+    left = peer_of left after new;
+    does = (peer_of left after new, (went.written, went.parts, same, refl), refl);
+    leads = refl;
+    few = omega arith;
+    late = (new.waiting, went.parts ∙ ap (λ b. b ++ new.waiting) (sym (append-nil went.gone)));
+    stays = refl;
+  }
+  sends answered lost host left before after old new (Err Broken) same found went = record { acts = []; left = peer_of left before old; does = refl; leads = refl; few = omega arith; late = (old.waiting, refl); stays = tt }
+  sends answered lost host left before after old new (Err Lost) same found went = (let bad : true ≡ false = found in absurd (cc bad))
+
+  leads_behind : (answered : Answered H) (lost : Loses H) (before after : H) (bytes : List ℕ) (acts : List Act) (loses : Bool) → LeadsTo answered lost before after acts loses → LeadsTo answered lost before after (Writes bytes ∷ acts) loses
+  leads_behind answered lost before after bytes acts false leads = leads
+  leads_behind answered lost before after bytes acts true leads = record { mid = leads.mid; chain = leads.chain; frame = leads.frame; right = leads.right; is = leads.is }
+
+  -- all of it is, and then more is done
+  pub sends_then : (answered : Answered H) (lost : Loses H) (host next : H) (left now before after : Option (List ℕ)) (old mid new : Talk) (result : Result Turn TurnFault) → mid.pending ≡ old.pending → IsSent old.waiting mid.waiting before after → mid.waiting ≡ []
+      → IsTurn answered lost host next (peer_of left after mid) (peer_of now after new) result → IsTurn answered lost host next (peer_of left before old) (peer_of now after new) result
+  sends_then answered lost host next left now before after old mid new result same went empty more =
+      let nothing : sent more.acts ≡ [] = nil_front (sent more.acts) more.late.0 (sym more.late.1 ∙ empty) in
+      record {
+        acts = Writes went.gone ∷ more.acts;
+        left = more.left;
+        does = (peer_of left after mid, (went.written, went.parts, same, refl), more.does);
+        leads = leads_behind answered lost host next went.gone more.acts (is_loss result) more.leads;
+        few = more.few;
+        late = (mid.waiting, went.parts ∙ ap (λ b. b ++ mid.waiting) (sym (append-nil went.gone) ∙ ap (λ b. went.gone ++ b) (sym nothing)));
+        stays = more.stays;
+      }

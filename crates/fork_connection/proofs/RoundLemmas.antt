@@ -1,10 +1,11 @@
 -- Turns of many connections are acts at their peers.
-use Rattle.std.proofs.Common.{Result, Ok, Err, ◌≡◌, ◌≢◌, ℕ, ◌<◌, ◌==◌, Bool, true, false, cond, List, [], ◌∷◌, ◌++◌, length, get_or, set, refl, sym, ap, ◌∙◌, subst, arith}
+use Rattle.std.proofs.Common.{Result, Ok, Err, ◌≡◌, ◌≢◌, ℕ, ◌+◌, ◌<◌, ◌≤◌, ◌==◌, Bool, true, false, cond, List, [], ◌∷◌, ◌++◌, length, get_or, set, refl, sym, ap, ◌∙◌, subst, arith}
 use Rattle.std.specs.Prelude.{OnOk, is_err}
-use Rattle.std.proofs.lemmas.List.{get_or-set_other, get_or-set_same, length-set}
+use Rattle.std.proofs.lemmas.List.{append-nil, get_or-set_other, get_or-set_same, length-set}
 use Rattle.fork_connection.specs.declared.answering.Lost.{Lost}
-use Rattle.fork_connection.specs.Turns.{Act, Acts, Answered, Answers, Chain, Does, LeadsTo, Loses, Peer, Reads, Refuses, Runs, Step, Writes, acts_of}
+use Rattle.fork_connection.specs.Turns.{Act, Acts, Answered, Answers, Chain, Does, LeadsTo, Loses, Peer, Reads, Refuses, Runs, SendsWhatWaited, Step, Writes, acts_at, acts_of}
 use Rattle.fork_connection.specs.Rounds.{AreTurns, IsServed, Reaches, Stands}
+use Rattle.fork_connection.proofs.TurnLemmas.{acts_alone}
 
 -- the table with this peer at this place
 abbrev put : (ℕ → Peer) → ℕ → Peer → ℕ → Peer
@@ -24,6 +25,28 @@ put_again table at mid peer place false = refl
 abbrev steps_at : ℕ → List Act → List Step
 steps_at at [] = []
 steps_at at (act ∷ acts) = record { at = at; act = act } ∷ steps_at at acts
+
+acts_at-steps_at : (at : ℕ) (acts : List Act) → acts_at at (steps_at at acts) ≡ acts
+acts_at-steps_at at [] = refl
+acts_at-steps_at at (act ∷ acts) =
+    ap (λ (b : Bool). cond b (act ∷ acts_at at (steps_at at acts)) (acts_at at (steps_at at acts))) (let same : (at == at) ≡ true = grind arith in same)
+    ∙ ap (λ (l : List Act). act ∷ l) (acts_at-steps_at at acts)
+
+acts_at-elsewhere : (at place : ℕ) (acts : List Act) → place ≢ at → acts_at place (steps_at at acts) ≡ []
+acts_at-elsewhere at place [] apart = refl
+acts_at-elsewhere at place (act ∷ acts) apart =
+    ap (λ (b : Bool). cond b (act ∷ acts_at place (steps_at at acts)) (acts_at place (steps_at at acts))) (let other : (at == place) ≡ false = grind (arith, apart) in other)
+    ∙ acts_at-elsewhere at place acts apart
+
+acts_at_append : (b : Bool) (act : Act) (acts more : List Act) → cond b (act ∷ (acts ++ more)) (acts ++ more) ≡ cond b (act ∷ acts) acts ++ more
+acts_at_append true act acts more = refl
+acts_at_append false act acts more = refl
+
+acts_at-append : (place : ℕ) (steps more : List Step) → acts_at place (steps ++ more) ≡ acts_at place steps ++ acts_at place more
+acts_at-append place [] more = refl
+acts_at-append place (step ∷ steps) more =
+    ap (λ (l : List Act). cond (step.at == place) (step.act ∷ l) l) (acts_at-append place steps more)
+    ∙ acts_at_append (step.at == place) step.act (acts_at place steps) (acts_at place more)
 
 acts_of-steps_at : (at : ℕ) (acts : List Act) → acts_of (steps_at at acts) ≡ acts
 acts_of-steps_at at [] = refl
@@ -88,16 +111,34 @@ module _ {H : Type 0} where
     idle = λ over. refl;
     leads = refl;
     few = omega arith;
+    late = (peer.waiting, refl);
     stays = λ on. (on, refl);
   }
 
 module _ {H P : Type 0} where
+  no_turn : (answered : Answered H) (lost : Loses H) (peer : P → Peer) (is_over : P → Bool) (host : H) (parties : List P) (table : ℕ → Peer) → Stands peer is_over table parties → Reaches answered lost peer is_over host host table parties (Ok tt)
+  no_turn answered lost peer is_over host parties table stands = record { steps = []; next = table; runs = λ place. refl; leads = refl; late = λ place. ((table place).waiting, refl); stands = stands }
+
   pub no_turns : (answered : Answered H) (lost : Loses H) (peer : P → Peer) (is_over : P → Bool) (host : H) (parties : List P) → AreTurns answered lost peer is_over host host parties parties (Ok tt)
-  no_turns answered lost peer is_over host parties table stands = record { steps = []; next = table; runs = λ place. refl; leads = refl; stands = stands }
+  no_turns answered lost peer is_over host parties table stands = no_turn answered lost peer is_over host parties table stands
+
+  -- the turns of those before this place
+  abbrev pub AreTurnsBefore : Answered H → Loses H → (P → Peer) → (P → Bool) → H → H → List P → List P → Result (Unit {0}) Lost → ℕ → Type 0
+  AreTurnsBefore answered lost peer is_over before after old new result at = (table : ℕ → Peer) → Stands peer is_over table old
+      → (reached : Reaches answered lost peer is_over before after table new result) × ((place : ℕ) → at ≤ place → acts_at place reached.steps ≡ [])
+
+  pub none_before : (answered : Answered H) (lost : Loses H) (peer : P → Peer) (is_over : P → Bool) (host : H) (parties : List P) (at : ℕ) → AreTurnsBefore answered lost peer is_over host host parties parties (Ok tt) at
+  unfolding no_turn
+  none_before answered lost peer is_over host parties at table stands = (no_turn answered lost peer is_over host parties table stands, λ place less. refl)
+
+  pub are_turns : (answered : Answered H) (lost : Loses H) (peer : P → Peer) (is_over : P → Bool) (before after : H) (old new : List P) (result : Result (Unit {0}) Lost) (at : ℕ) → AreTurnsBefore answered lost peer is_over before after old new result at
+      → AreTurns answered lost peer is_over before after old new result
+  are_turns answered lost peer is_over before after old new result at turns table stands = (turns table stands).0
 
   -- one more turn
   one_turn : (answered : Answered H) (lost : Loses H) (peer : P → Peer) (is_over : P → Bool) (before after : H) (parties : List P) (at : ℕ) (new other : P) (result : Result (Unit {0}) Lost) → at < length parties
-      → IsServed answered lost before after (peer (get_or parties at other)) (peer new) (is_over (get_or parties at other)) (is_over new) result → AreTurns answered lost peer is_over before after parties (set parties at new) result
+      → IsServed answered lost before after (peer (get_or parties at other)) (peer new) (is_over (get_or parties at other)) (is_over new) result → (table : ℕ → Peer) → Stands peer is_over table parties
+      → (reached : Reaches answered lost peer is_over before after table (set parties at new) result) × ((place : ℕ) → place ≢ at → acts_at place reached.steps ≡ [])
   one_turn answered lost peer is_over before after parties at new other result within served table stands = turn (is_over (get_or parties at other)) refl
     where
       still : length (set parties at new) ≡ length parties
@@ -132,34 +173,72 @@ module _ {H P : Type 0} where
       over_left (Ok done) over stays = λ on. absurd (not_on over (stays on).0)
       over_left (Err gone) over stays = tt
 
-      turn : (was : Bool) → is_over (get_or parties at other) ≡ was → Reaches answered lost peer is_over before after table (set parties at new) result
+      -- what went out to this one, and to any other one
+      late : peer (get_or parties at other) ≡ table at → (place : ℕ) (b : Bool) → (place == at) ≡ b → SendsWhatWaited (table place) (acts_at place (steps_at at served.acts))
+      late was place true hit =
+          let e : at ≡ place = grind (arith, hit) in
+          subst (λ (p : ℕ). SendsWhatWaited (table p) (acts_at p (steps_at at served.acts))) e
+          (subst (λ (l : List Act). SendsWhatWaited (table at) l) (sym (acts_at-steps_at at served.acts)) (subst (λ (p : Peer). SendsWhatWaited p served.acts) was served.late))
+      late was place false miss =
+          let apart : place ≢ at = grind (arith, miss) in
+          subst (λ (l : List Act). SendsWhatWaited (table place) l) (sym (acts_at-elsewhere at place served.acts apart)) ((table place).waiting, refl)
+
+      turn : (was : Bool) → is_over (get_or parties at other) ≡ was
+          → (reached : Reaches answered lost peer is_over before after table (set parties at new) result) × ((place : ℕ) → place ≢ at → acts_at place reached.steps ≡ [])
       turn false goes =
-          let was = stands at other within goes in
-          record {
-            steps = steps_at at served.acts;
-            next = put table at served.left;
-            runs = runs_at table at served.acts (peer (get_or parties at other)) served.left was (served.does goes);
-            leads = subst (λ (l : List Act). LeadsTo answered lost before after l (is_err result)) (sym (acts_of-steps_at at served.acts)) served.leads;
-            stands = stood (put table at served.left) served.left result (there table at served.left) (λ place apart. elsewhere table at served.left place apart) (same_left result served.stays);
-          }
-      turn true over = record {
-        steps = [];
-        next = table;
-        runs = λ place. refl;
-        leads = subst (λ (l : List Act). LeadsTo answered lost before after l (is_err result)) (served.idle over) served.leads;
-        stands = stood table (table at) result refl (λ place apart. refl) (over_left result over served.stays);
-      }
+          let was = stands at other within goes in (
+            record {
+              steps = steps_at at served.acts;
+              next = put table at served.left;
+              runs = runs_at table at served.acts (peer (get_or parties at other)) served.left was (served.does goes);
+              leads = subst (λ (l : List Act). LeadsTo answered lost before after l (is_err result)) (sym (acts_of-steps_at at served.acts)) served.leads;
+              late = λ place. late (sym was) place (place == at) refl;
+              stands = stood (put table at served.left) served.left result (there table at served.left) (λ place apart. elsewhere table at served.left place apart) (same_left result served.stays);
+            },
+            λ place apart. acts_at-elsewhere at place served.acts apart,
+          )
+      turn true over = (
+        record {
+          steps = [];
+          next = table;
+          runs = λ place. refl;
+          leads = subst (λ (l : List Act). LeadsTo answered lost before after l (is_err result)) (served.idle over) served.leads;
+          late = λ place. ((table place).waiting, refl);
+          stands = stood table (table at) result refl (λ place apart. refl) (over_left result over served.stays);
+        },
+        λ place apart. refl,
+      )
 
   pub turns_more : (answered : Answered H) (lost : Loses H) (peer : P → Peer) (is_over : P → Bool) (first before after : H) (old parties : List P) (at : ℕ) (new other : P) (result : Result (Unit {0}) Lost) → at < length parties
-      → AreTurns answered lost peer is_over first before old parties (Ok tt)
-      → IsServed answered lost before after (peer (get_or parties at other)) (peer new) (is_over (get_or parties at other)) (is_over new) result → AreTurns answered lost peer is_over first after old (set parties at new) result
+      → AreTurnsBefore answered lost peer is_over first before old parties (Ok tt) at
+      → IsServed answered lost before after (peer (get_or parties at other)) (peer new) (is_over (get_or parties at other)) (is_over new) result → AreTurnsBefore answered lost peer is_over first after old (set parties at new) result (at + 1)
   turns_more answered lost peer is_over first before after old parties at new other result within so_far served table stands =
-      let one = so_far table stands in
-      let two = one_turn answered lost peer is_over before after parties at new other result within served one.next one.stands in
-      record {
-        steps = one.steps ++ two.steps;
-        next = two.next;
-        runs = runs_append table one.next two.next one.steps two.steps one.runs two.runs;
-        leads = subst (λ (l : List Act). LeadsTo answered lost first after l (is_err result)) (sym (acts_of-append one.steps two.steps)) (leads_append answered lost first before after (acts_of one.steps) (acts_of two.steps) (is_err result) one.leads two.leads);
-        stands = two.stands;
-      }
+      let one = (so_far table stands).0 in
+      let quiet = (so_far table stands).1 in
+      let turn = one_turn answered lost peer is_over before after parties at new other result within served one.next one.stands in
+      let two = turn.0 in (
+        record {
+          steps = one.steps ++ two.steps;
+          next = two.next;
+          runs = runs_append table one.next two.next one.steps two.steps one.runs two.runs;
+          leads = subst (λ (l : List Act). LeadsTo answered lost first after l (is_err result)) (sym (acts_of-append one.steps two.steps)) (leads_append answered lost first before after (acts_of one.steps) (acts_of two.steps) (is_err result) one.leads two.leads);
+          late = λ place. both table one.next one.steps two.steps place at one.runs quiet turn.1 one.late two.late (place == at) refl;
+          stands = two.stands;
+        },
+        λ place less. (let before : at ≤ place = omega (arith, less) in
+            let apart : place ≢ at = grind (arith, less) in
+            acts_at-append place one.steps two.steps ∙ (ap (λ (l : List Act). l ++ acts_at place two.steps) (quiet place before) ∙ turn.1 place apart)),
+      )
+    where
+      -- of two lists of steps of which one has none at a place
+      both : (table next : ℕ → Peer) (steps more : List Step) (place at : ℕ) → Runs table steps next → ((p : ℕ) → at ≤ p → acts_at p steps ≡ []) → ((p : ℕ) → p ≢ at → acts_at p more ≡ [])
+          → ((p : ℕ) → SendsWhatWaited (table p) (acts_at p steps)) → ((p : ℕ) → SendsWhatWaited (next p) (acts_at p more)) → (b : Bool) → (place == at) ≡ b → SendsWhatWaited (table place) (acts_at place (steps ++ more))
+      both table next steps more place at runs quiet alone late later true hit =
+          let here : at ≤ place = grind (arith, hit) in
+          let none : acts_at place steps ≡ [] = quiet place here in
+          let same : table place ≡ next place = subst (λ (l : List Act). Acts (table place) l (next place)) none (acts_alone table next steps runs place) in
+          subst (λ (l : List Act). SendsWhatWaited (table place) l) (sym (acts_at-append place steps more ∙ ap (λ (l : List Act). l ++ acts_at place more) none))
+          (subst (λ (p : Peer). SendsWhatWaited p (acts_at place more)) (sym same) (later place))
+      both table next steps more place at runs quiet alone late later false miss =
+          let apart : place ≢ at = grind (arith, miss) in
+          subst (λ (l : List Act). SendsWhatWaited (table place) l) (sym (acts_at-append place steps more ∙ (ap (λ (l : List Act). acts_at place steps ++ l) (alone place apart) ∙ append-nil (acts_at place steps)))) (late place)

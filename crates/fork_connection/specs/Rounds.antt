@@ -2,11 +2,11 @@
 use Rattle.std.specs.Prelude.{◌≡◌, ℕ, ◌<◌, ◌≤◌, Bool, true, false, List, [], length, get_or, Option, Result, OnOk, is_err}
 use Rattle.fork_connection.specs.declared.answering.Lost.{Lost}
 use Rattle.fork_connection.specs.declared.party.Party.{Party}
-use Rattle.fork_connection.specs.Turns.{Act, Acts, Answered, LeadsTo, Loses, Peer, Runs, Step, acts_of, asked, peer_of}
+use Rattle.fork_connection.specs.Turns.{Act, Acts, Answered, LeadsTo, Loses, Peer, Runs, SendsWhatWaited, Step, acts_at, acts_of, asked, peer_of}
 
 module _ {H : Type 0} where
-  -- one connection had its turn, in which at most one frame was answered, unless it was over; if it goes on, it is as the acts
-  -- leave it
+  -- one connection had its turn, in which at most one frame was answered and only what waited before went out, unless it was over;
+  -- if it goes on, it is as the acts leave it
   pub record IsServed (answered : Answered H) (lost : Loses H) (before after : H) (old new : Peer) (was is : Bool) (result : Result (Unit {0}) Lost) : Type 0 where
     pub acts : List Act
     pub left : Peer
@@ -14,6 +14,7 @@ module _ {H : Type 0} where
     pub idle : was ≡ true → acts ≡ []
     pub leads : LeadsTo answered lost before after acts (is_err result)
     pub few : length (asked acts) ≤ 1
+    pub late : SendsWhatWaited old acts
     pub stays : OnOk result (is ≡ false → (was ≡ false) × (left ≡ new))
 
 -- a connection with its two ends, as a peer: `remaining` is what a reader has left, and `contents` what a writer holds
@@ -29,12 +30,14 @@ module _ {P : Type 0} where
   Stands peer is_over table parties = (place : ℕ) (other : P) → place < length parties → is_over (get_or parties place other) ≡ false → table place ≡ peer (get_or parties place other)
 
 module _ {H P : Type 0} where
-  -- from these peers acts led to those of the connections now, and what answers went along, up to a loss if there is one
+  -- from these peers acts led to those of the connections now, and what answers went along, up to a loss if there is one. To each
+  -- peer only what waited for it before went out
   pub record Reaches (answered : Answered H) (lost : Loses H) (peer : P → Peer) (is_over : P → Bool) (before after : H) (table : ℕ → Peer) (new : List P) (result : Result (Unit {0}) Lost) : Type 0 where
     pub steps : List Step
     pub next : ℕ → Peer
     pub runs : Runs table steps next
     pub leads : LeadsTo answered lost before after (acts_of steps) (is_err result)
+    pub late : (place : ℕ) → SendsWhatWaited (table place) (acts_at place steps)
     pub stands : OnOk result (Stands peer is_over next new)
 
   -- turns led from the one to the other, whatever the peers were

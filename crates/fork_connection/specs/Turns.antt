@@ -64,6 +64,18 @@ owed (Reads bytes ∷ acts) = owed acts
 owed (Writes bytes ∷ acts) = owed acts
 owed (Refuses ∷ acts) = last_line BadFrame ++ owed acts
 
+-- what went out
+abbrev pub sent : List Act → List ℕ
+sent [] = []
+sent (Writes bytes ∷ acts) = bytes ++ sent acts
+sent (Reads bytes ∷ acts) = sent acts
+sent (Answers frame reply ∷ acts) = sent acts
+sent (Refuses ∷ acts) = sent acts
+
+-- what went out waited before these acts, so none of it is a reply to a frame that they answered
+abbrev pub SendsWhatWaited : Peer → List Act → Type 0
+SendsWhatWaited old acts = (rest : List ℕ) × (old.waiting ≡ sent acts ++ rest)
+
 -- a peer's bytes are its frames in order and what is pending; and what went out and what waits are what was waiting and the replies
 -- to these frames in order
 pub record IsHeard (old new : Peer) (acts : List Act) : Type 0 where
@@ -152,12 +164,13 @@ pub record Talk : Type 0 where
 abbrev pub peer_of : Option (List ℕ) → Option (List ℕ) → Talk → Peer
 peer_of left out talk = record { left = left; out = out; pending = talk.pending; waiting = talk.waiting }
 
--- bytes and the last line went in and out, and no frame was answered; if the connection broke, it did after these acts
+-- bytes came or the last line waits, no frame was answered, and nothing went out; if the connection broke, it did after these acts
 pub record IsExchange (old new : Peer) (result : Result Turn TurnFault) : Type 0 where
   pub acts : List Act
   pub left : Peer
   pub does : Acts old acts left
   pub none : asked acts ≡ []
+  pub unsent : sent acts ≡ []
   pub found : is_loss result ≡ false
   pub stays : OnOk result (left ≡ new)
 
@@ -168,23 +181,24 @@ pub record IsSent (bytes waiting : List ℕ) (before after : Option (List ℕ)) 
   pub written : Appends before after gone
 
 module _ {H : Type 0} where
-  -- a frame was answered, and its reply goes out
-  pub record IsReplied (answered : Answered H) (old new : H) (frame : Frame) (waiting : List ℕ) (before after : Option (List ℕ)) (result : Result Turn TurnFault) : Type 0 where
+  -- a frame was answered, and its reply waits
+  pub record IsReplied (answered : Answered H) (old new : H) (frame : Frame) (waiting : List ℕ) (result : Result Turn TurnFault) : Type 0 where
     pub reply : Reply
     pub is : answered old frame reply new
-    pub sent : OnOk result (IsSent (reply_frame (bytes_of reply)) waiting before after)
+    pub waits : OnOk result (waiting ≡ reply_frame (bytes_of reply))
 
   -- the same, unless it has no reply
-  abbrev pub Replies : Answered H → Loses H → H → H → Frame → List ℕ → Option (List ℕ) → Option (List ℕ) → Result Turn TurnFault → Type 0
-  Replies answered lost old new frame waiting before after (Ok turn) = IsReplied answered old new frame waiting before after (Ok turn)
-  Replies answered lost old new frame waiting before after (Err Broken) = IsReplied answered old new frame waiting before after (Err Broken)
-  Replies answered lost old new frame waiting before after (Err Lost) = lost old frame new
+  abbrev pub Replies : Answered H → Loses H → H → H → Frame → List ℕ → Result Turn TurnFault → Type 0
+  Replies answered lost old new frame waiting (Ok turn) = IsReplied answered old new frame waiting (Ok turn)
+  Replies answered lost old new frame waiting (Err Broken) = IsReplied answered old new frame waiting (Err Broken)
+  Replies answered lost old new frame waiting (Err Lost) = lost old frame new
 
-  -- one turn: at most one frame was answered; if the connection broke, it did after these acts
+  -- one turn: at most one frame was answered, and only what waited before went out; if the connection broke, it did after these acts
   pub record IsTurn (answered : Answered H) (lost : Loses H) (before after : H) (old new : Peer) (result : Result Turn TurnFault) : Type 0 where
     pub acts : List Act
     pub left : Peer
     pub does : Acts old acts left
     pub leads : LeadsTo answered lost before after acts (is_loss result)
     pub few : length (asked acts) ≤ 1
+    pub late : SendsWhatWaited old acts
     pub stays : OnOk result (left ≡ new)

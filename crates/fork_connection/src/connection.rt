@@ -1,4 +1,4 @@
-ghost use Rattle.std.specs.Prelude.{◌≡◌, ◌≤◌, ◌<◌, [], false, true, OnOk, length};
+ghost use Rattle.std.specs.Prelude.{◌≡◌, ◌≤◌, ◌<◌, [], ℕ, List, Option, false, true, OnOk, length};
 ghost use Rattle.fork_frame.specs.declared.ended.Ended.{Ended as HowEnded};
 ghost use Rattle.fork_frame.specs.Reply.{last_line};
 ghost use Rattle.fork_connection.specs.Inbox.{IsPart};
@@ -103,17 +103,15 @@ impl Connection {
         }
     }
 
-    // Answers a frame that was taken, and sends what goes at once.
-    fn answer<H: Answering, W: Write>(
+    // Answers a frame that was taken. Its reply waits for the next turn.
+    fn answer<H: Answering>(
         &mut self,
         alloc: Global,
         host: &mut H,
         frame: Frame,
-        writer: &mut W,
     ) -> Result<Turn, TurnFault>
-        requires { self.old.waiting ≡ [] }
         ensures pending { self.new.pending ≡ self.old.pending }
-        ensures replied { Replies H.answered H.lost host.old host.new frame self.new.waiting (W.contents writer.old) (W.contents writer.new) result }
+        ensures replied { Replies H.answered H.lost host.old host.new frame self.new.waiting result }
     {
         let Ok(reply) = host.answer(alloc, &frame) else {
             return Err(TurnFault::Lost);
@@ -121,54 +119,75 @@ impl Connection {
         let Ok(()) = self.outbox.put_reply(alloc, reply) else {
             return Err(TurnFault::Broken);
         };
-        let Ok(_) = self.outbox.send(alloc, writer) else {
-            return Err(TurnFault::Broken);
-        };
         Ok(Turn::Answered)
     }
 
-    // Tells that no frame came, and that nothing more is taken.
-    fn refuse<W: Write>(&mut self, alloc: Global, writer: &mut W) -> Result<Turn, TurnFault>
-        requires { self.old.waiting ≡ [] }
+    // Has it told that no frame came, and takes nothing more.
+    fn refuse(&mut self, alloc: Global) -> Result<Turn, TurnFault>
         ensures pending { self.new.pending ≡ self.old.pending }
-        ensures sent { OnOk result (IsSent (last_line HowEnded.BadFrame) self.new.waiting (W.contents writer.old) (W.contents writer.new)) }
+        ensures told { OnOk result (self.new.waiting ≡ last_line HowEnded.BadFrame) }
         ensures found { is_loss result ≡ false }
     {
         self.is_ending = true;
         let Ok(()) = self.outbox.put_bad_frame(alloc) else {
             return Err(TurnFault::Broken);
         };
-        self.send(alloc, writer)
+        Ok(Turn::Busy)
     }
 
     // Reads once.
-    fn read<R: Read, W: Write>(
+    fn read<R: Read>(
         &mut self,
         alloc: Global,
         reader: &mut R,
-        writer: &mut W,
         buffer: &mut [u8],
     ) -> Result<Turn, TurnFault>
         requires waiting { self.old.waiting ≡ [] }
         requires part { IsPart self.old.pending }
         requires buffer { 0 < length buffer.old }
         ensures buffer { length buffer.new ≡ length buffer.old }
-        ensures exchange { IsExchange (peer_of (R.remaining reader.old) (W.contents writer.old) self.old)
-            (peer_of (R.remaining reader.new) (W.contents writer.new) self.new) result }
+        ensures exchange { (out : Option (List ℕ)) → IsExchange (peer_of (R.remaining reader.old) out self.old)
+            (peer_of (R.remaining reader.new) out self.new) result }
     {
         match self.inbox.fill(reader, buffer) {
             Ok(Came::Some) => Ok(Turn::Busy),
             Ok(Came::Nothing) => Ok(Turn::Waits),
             Ok(Came::End) => match self.inbox.ended() {
                 Ended::Clean => Ok(Turn::Over),
-                Ended::BadFrame => self.refuse(alloc, writer),
+                Ended::BadFrame => self.refuse(alloc),
             },
             Err(_) => Err(TurnFault::Broken),
         }
     }
 
-    /// One turn: what waits goes out, as far as the peer takes it, before anything more is taken of the
-    /// peer; and then at most one frame is answered. After an `Err` the connection is to be ended.
+    // Answers at most one frame, or reads once, where nothing waits to go out.
+    fn take<H: Answering, R: Read>(
+        &mut self,
+        alloc: Global,
+        host: &mut H,
+        reader: &mut R,
+        buffer: &mut [u8],
+    ) -> Result<Turn, TurnFault>
+        requires waiting { self.old.waiting ≡ [] }
+        requires buffer { 0 < length buffer.old }
+        ensures buffer { length buffer.new ≡ length buffer.old }
+        ensures turn { (out : Option (List ℕ)) → IsTurn H.answered H.lost host.old host.new (peer_of (R.remaining reader.old) out self.old)
+            (peer_of (R.remaining reader.new) out self.new) result }
+    {
+        if self.is_ending {
+            return Ok(Turn::Over);
+        }
+        match self.inbox.take(alloc) {
+            Ok(Arrival::Frame(frame)) => self.answer(alloc, host, frame),
+            Ok(Arrival::Bad) => self.refuse(alloc),
+            Ok(Arrival::Part) => self.read(alloc, reader, buffer),
+            Err(_) => Err(TurnFault::Broken),
+        }
+    }
+
+    /// One turn: what waits goes out, as far as the peer takes it. Where all of it did, and more may be
+    /// taken of the peer, at most one frame is answered. Its reply waits for the next turn, so that its
+    /// request can be synced before. After an `Err` the connection is to be ended.
     pub(crate) fn turn<H: Answering, R: Read, W: Write>(
         &mut self,
         alloc: Global,
@@ -176,23 +195,23 @@ impl Connection {
         reader: &mut R,
         writer: &mut W,
         buffer: &mut [u8],
+        is_full: bool,
     ) -> Result<Turn, TurnFault>
         requires { 0 < length buffer.old }
         ensures buffer { length buffer.new ≡ length buffer.old }
         ensures turn { IsTurn H.answered H.lost host.old host.new (peer_of (R.remaining reader.old) (W.contents writer.old) self.old)
             (peer_of (R.remaining reader.new) (W.contents writer.new) self.new) result }
     {
+        if !self.is_owed() {
+            return self.take(alloc, host, reader, buffer);
+        }
+        let sent = self.send(alloc, writer)?;
+        if is_full {
+            return Ok(sent);
+        }
         if self.is_owed() {
-            return self.send(alloc, writer);
+            return Ok(sent);
         }
-        if self.is_ending {
-            return Ok(Turn::Over);
-        }
-        match self.inbox.take(alloc) {
-            Ok(Arrival::Frame(frame)) => self.answer(alloc, host, frame, writer),
-            Ok(Arrival::Bad) => self.refuse(alloc, writer),
-            Ok(Arrival::Part) => self.read(alloc, reader, writer, buffer),
-            Err(_) => Err(TurnFault::Broken),
-        }
+        self.take(alloc, host, reader, buffer)
     }
 }

@@ -34,10 +34,14 @@ fn serve<H: Answering, R: Read, W: Write>(
     if !has_turn(party, is_full) {
         return Ok(());
     }
-    match party
-        .connection
-        .turn(alloc, host, &mut party.reader, &mut party.writer, buffer)
-    {
+    match party.connection.turn(
+        alloc,
+        host,
+        &mut party.reader,
+        &mut party.writer,
+        buffer,
+        is_full,
+    ) {
         Ok(Turn::Answered) => {
             party.frames = party.frames.saturating_add(1);
             Ok(())
@@ -92,9 +96,9 @@ fn waiting_in<R, W>(parties: &[Party<R, W>]) -> usize {
     waiting
 }
 
-/// One turn of each connection, in which at most one frame of it is answered, so that none holds up
-/// another. While more than `most` bytes wait to go out in all, no frame is taken. Stops where a reply
-/// must not go out. What comes is read through the buffer; if that has no room, nothing is done.
+/// One turn of each connection, in which what waited before goes out and at most one frame of it is
+/// answered, so that none holds up another, and no reply goes out in the round of its frame. While more than
+/// `most` bytes wait to go out in all, no frame is taken. Stops where a reply must not go out. What comes is read through the buffer; if that has no room, nothing is done.
 pub fn round<H: Answering, R: Read, W: Write>(
     alloc: Global,
     host: &mut H,

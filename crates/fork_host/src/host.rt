@@ -1,4 +1,4 @@
-ghost use Rattle.std.specs.Prelude.{◌≡◌, ◌≢◌, ◌⊎◌, IsTrue, IfOk, IfErr, OnOk, OnErr, List, [], ℕ, Some, None, false, option_map, map as each};
+ghost use Rattle.std.specs.Prelude.{◌≡◌, ◌≢◌, ◌⊎◌, IsTrue, IfOk, IfErr, OnOk, OnErr, List, [], ℕ, Some, None, false, option_map, map as each, length};
 ghost use Rattle.push_stream.specs.Upload.{upload_of};
 ghost use Rattle.fork_host.specs.Uploads.{upload_at, uploads_of};
 ghost use Rattle.std.specs.FinMap as map;
@@ -29,7 +29,7 @@ use crate::tending::tend;
 use fork_ledger::{Survey, Vault, VaultFault, sharp_slices};
 use fork_model::{MAX_TENANTS, a_run_is_private, what_runs_show_was_seen_or_sent};
 use fork_request::{HostFault, HostRequest, MAX_LIMIT, Reply, Request, TenantName};
-use loose_store::LooseFiles;
+use loose_store::{FileFault, LooseFiles};
 use state_text::States;
 use std::alloc::{AllocError, Global};
 use std::marker::Model;
@@ -113,6 +113,13 @@ impl<S: LooseFiles> Host<S> {
         self.accounts.len()
     }
 
+    /// The number of names in the catalogue of objects.
+    pub fn census(&self) -> u64
+        ensures { result ≡ length self.now.vault.places.names }
+    {
+        self.vault.census()
+    }
+
     /// What of the host outlives its process: the limit of each tenant, its repositories, the names of the
     /// objects that it sees, and its offers. Open uploads are not in it.
     pub fn states(&self, alloc: Global) -> Result<States, NoMemory>
@@ -149,6 +156,34 @@ impl<S: LooseFiles> Host<S> {
         ensures faults { IsBounded [] self.old.vault self.new.vault (reading_told result) }
     {
         self.accounts.upload(alloc, &mut self.vault, name)
+    }
+
+    /// Makes the file of each object that came survive a loss of power. It is called before a state that names the
+    /// objects is saved. After a failure it always fails.
+    pub fn sync(&mut self, alloc: Global) -> Result<(), FileFault>
+        ensures { self.new ≡ self.old }
+    {
+        self.vault.sync(alloc)
+    }
+
+    /// Does some of the work of the next `sync`, if that has much to do. It is called between requests.
+    pub fn sync_ahead(&mut self, alloc: Global) -> Result<(), FileFault>
+        ensures { self.new ≡ self.old }
+    {
+        self.vault.sync_ahead(alloc)
+    }
+
+    /// Whether a file that a sweep removed would be back if the store were opened again.
+    pub fn has_removed(&self) -> bool {
+        self.vault.has_removed()
+    }
+
+    /// Makes the removals of sweeps final. It is called after a state that names none of the removed objects was
+    /// saved. After an `Err` some of the removed files may still come back.
+    pub fn forget_removed(&mut self, alloc: Global) -> Result<(), FileFault>
+        ensures { self.new ≡ self.old }
+    {
+        self.vault.forget_removed(alloc)
     }
 
     /// Adds a tenant that sees nothing and may use this many bytes. On failure the host is as it was.

@@ -8,7 +8,8 @@ ghost use Rattle.git_reftx.specs.Transaction.{References};
 ghost use Rattle.looks.specs.Growth.{GrowsAmong};
 ghost use Rattle.push_stream.specs.Brief.{brief_shown};
 ghost use Rattle.fork_reach.specs.Objects.{use_of};
-ghost use Rattle.fork_reach.specs.Reach.{is_between, is_reached, linked_names};
+ghost use Rattle.fork_reach.specs.History.{note_at};
+ghost use Rattle.fork_reach.specs.Reach.{is_between, is_reached, linked_names, parent_names};
 ghost use Rattle.fork_reach.specs.Source.{kind_in};
 ghost use Rattle.fork_ledger.specs.AllStaged.{MeetsAmong, StoresAmong, with_all_staged};
 ghost use Rattle.fork_ledger.specs.Private.{with_discarded, with_kept, with_published};
@@ -113,6 +114,32 @@ impl<'a, S: LooseFiles> Own<'a, S> {
     {
         self.vault
             .known_between(alloc, self.tenant, wanted, excluded)
+    }
+
+    // The same of what parents of commits lead to.
+    pub(crate) fn history_seen(
+        &self,
+        alloc: Global,
+        wanted: &[Name],
+        excluded: &[Name],
+    ) -> Result<Option<IndexSet<Name, Hashing>>, AllocError>
+        ensures found { IsTrue self.now.vault.now.honest → IfOk result (λ known. IfSome known (λ found. (name : List ℕ) → contains same_name found name ≡ is_between (parent_names (visible_by self.now)) (visible_by self.now) wanted.now excluded.now name)) }
+
+        // Over any store.
+        ensures there { IfOk result (λ known. IfSome known (λ found. (name : List ℕ) → contains same_name found name ≡ true → map.contains_key (visible_by self.now) name ≡ true)) }
+    {
+        self.vault
+            .known_history(alloc, self.tenant, wanted, excluded)
+    }
+
+    // The committer's seconds of a commit that the tenant sees, if the vault knows them.
+    pub(crate) fn seconds_seen(&self, name: Name) -> Option<u64>
+        ensures told { IsTrue self.now.vault.now.honest → IfSome result (λ seconds. seconds ≡ (note_at (visible_by self.now) name).seconds) }
+
+        // Over any store.
+        ensures there { IfSome result (λ seconds. map.contains_key (visible_by self.now) name ≡ true) }
+    {
+        self.vault.known_seconds(self.tenant, name)
     }
 
     // The vault comes to know the links of an object, if the tenant sees it and it is lent.

@@ -53,6 +53,19 @@ impl<S: LooseFiles> Source for Own<'_, S> {
         self.known_seen(alloc, wanted, excluded)
     }
 
+    fn known_history(
+        &self,
+        alloc: Global,
+        wanted: &[Name],
+        excluded: &[Name],
+    ) -> Result<Option<IndexSet<Name, Hashing>>, AllocError> {
+        self.history_seen(alloc, wanted, excluded)
+    }
+
+    fn known_seconds(&self, name: Name) -> Option<u64> {
+        self.seconds_seen(name)
+    }
+
     fn learn_links(&mut self, alloc: Global, name: Name) {
         self.learn_seen(alloc, name);
     }

@@ -1,13 +1,13 @@
 -- That what is known of names is what stands on the store, as files and what is known change.
 use Rattle.std.proofs.Common.{◌≡◌, ◌≢◌, ◌⊎◌, inl, inr, ℕ, List, Option, None, Some, map, refl, sym, ap, subst, ◌∙◌}
 use Rattle.std.specs.FinMap.{get}
-use Rattle.git_object.specs.ObjectIn.{links_in}
 use Rattle.git_name.specs.Object.{Object}
 use Rattle.loose_store.specs.Files.{Files, SameBut}
 use Rattle.loose_store.specs.Stored.{Whole}
+use Rattle.number_links.specs.Facts.{Learned}
 use Rattle.object_table.specs.Links.{KnowsNoMore, NamedLinks}
 use Rattle.fork_ledger.specs.AllStaged.{StaysWhole}
-use Rattle.fork_ledger.specs.Led.{AreLed, LeadsTo}
+use Rattle.fork_ledger.specs.Led.{AreLed, LeadsTo, learned_of}
 
 -- nothing is known
 pub led_none : (links : NamedLinks) (files : Files) → ((q : List ℕ) → get links q ≡ None) → AreLed links files
@@ -36,17 +36,17 @@ led_but name links left old new but fewer away led = record {
 
 -- what one name leads to is learned from its object
 pub led_learned : (links now : NamedLinks) (files : Files) (name : List ℕ) (object : Object) → Whole files name object
-    → ((q : List ℕ) (to : List (List ℕ)) → get now q ≡ Some to → (get links q ≡ Some to) ⊎ ((q ≡ name) × (to ≡ map (λ link. link.name) (links_in object.kind object.bytes))))
+    → ((q : List ℕ) (to : Learned (List ℕ)) → get now q ≡ Some to → (get links q ≡ Some to) ⊎ ((q ≡ name) × (to ≡ learned_of object)))
     → AreLed links files → AreLed now files
 led_learned links now files name object whole only led = record { each = λ q to is. by q to (only q to is) }
   where
-    by : (q : List ℕ) (to : List (List ℕ)) → (get links q ≡ Some to) ⊎ ((q ≡ name) × (to ≡ map (λ link. link.name) (links_in object.kind object.bytes))) → LeadsTo files q to
+    by : (q : List ℕ) (to : Learned (List ℕ)) → (get links q ≡ Some to) ⊎ ((q ≡ name) × (to ≡ learned_of object)) → LeadsTo files q to
     by q to (inl before) = led.each q to before
     by q to (inr learned) = subst (λ n. LeadsTo files n to) (sym learned.0) (object, whole, sym learned.1)
 
 -- and the store is as it was
 pub led_read : (links now : NamedLinks) (files after : Files) (name : List ℕ) (object : Object) → (other : Object) × (Some object ≡ Some other) × Whole files name other → after ≡ files
-    → ((q : List ℕ) (to : List (List ℕ)) → get now q ≡ Some to → (get links q ≡ Some to) ⊎ ((q ≡ name) × (to ≡ map (λ link. link.name) (links_in object.kind object.bytes))))
+    → ((q : List ℕ) (to : Learned (List ℕ)) → get now q ≡ Some to → (get links q ≡ Some to) ⊎ ((q ≡ name) × (to ≡ learned_of object)))
     → AreLed links files → AreLed now after
 led_read links now files after name object found same only led =
     let one : found.0 ≡ object = (let is = found.1 in cc) in

@@ -9,12 +9,12 @@ ghost use Rattle.fork_ledger.specs.AllStaged.{StaysWhole};
 ghost use Rattle.fork_ledger.specs.Store.{CountsFault, Meets};
 
 use crate::fault::VaultFault;
-use git_name::Sealed;
+use git_name::{Name, Sealed};
 use loose_store::{FileFault, LooseFiles, StoreFault};
 use read_cache::CachedStore;
 use std::alloc::Global;
 
-// How a vault tells a fault of the store.
+// A fault of the store, as the vault reports it.
 pub(crate) fn store_fault(fault: FileFault) -> VaultFault
     ensures device { fault ≡ FileFault.Device → result ≡ VaultFault.Store }
     ensures memory { fault ≡ FileFault.Memory → result ≡ VaultFault.Memory }
@@ -25,9 +25,8 @@ pub(crate) fn store_fault(fault: FileFault) -> VaultFault
     }
 }
 
-// Sees to it that the file of an object is whole. Where none stands one is written. A whole file is
-// compared and never written over; one that is not whole is written anew, where no tenant holds the
-// name.
+// Makes sure that the file of an object is whole. If there is no file, it is written. A whole file is compared
+// and never overwritten. A file that is not whole is overwritten if no tenant holds the name.
 pub(crate) fn arrive<S: LooseFiles>(
     alloc: Global,
     files: &mut CachedStore<S>,
@@ -49,7 +48,7 @@ pub(crate) fn arrive<S: LooseFiles>(
     match files.read_past(alloc, name) {
         Ok(Some(found)) => {
             if is_same(&found, &sealed) {
-                Ok(())
+                rely_on(files, name)
             } else {
                 Err(VaultFault::Collision)
             }
@@ -72,6 +71,17 @@ fn is_same(found: &Sealed, sealed: &Sealed) -> bool
     ensures apart { result ≡ false → found.now ≢ sealed.now }
 {
     found.kind() == sealed.kind() && found.bytes() == sealed.bytes()
+}
+
+// The file of an arriving object is there, whole, and is relied on from here on.
+fn rely_on<S: LooseFiles>(files: &mut CachedStore<S>, name: Name) -> Result<(), VaultFault>
+    ensures files { files.new ≡ files.old }
+    ensures cause { IfErr result (λ fault. fault ≡ VaultFault.Memory) }
+{
+    match files.rely_on(name) {
+        Ok(()) => Ok(()),
+        Err(_) => Err(VaultFault::Memory),
+    }
 }
 
 // Writes the file of an object.

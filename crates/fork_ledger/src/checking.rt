@@ -1,4 +1,4 @@
-// The files of held names are read, each once, and what is wrong with them is noted.
+// Reads each file of a held name once, and collects what is wrong.
 ghost use Rattle.std.specs.Prelude.{◌≡◌, ◌≢◌, ◌<◌, ◌+◌, ℕ, List, IsTrue, IfErr, IfOk, OnOk, true};
 ghost use Rattle.git_name.specs.Count.{fault_in, greatest_count};
 ghost use Rattle.object_table.specs.Rows.{places_of};
@@ -15,7 +15,7 @@ use object_table::Holdings;
 use read_cache::CachedStore;
 use std::alloc::Global;
 
-// What is wrong with the file of a name, if anything. The store itself is asked, past all copies.
+// What is wrong with the file of a name, if anything. It is read from the store, not from a cache.
 fn harm_of<S: LooseFiles>(
     alloc: Global,
     files: &mut CachedStore<S>,
@@ -38,7 +38,7 @@ fn harm_of<S: LooseFiles>(
     }
 }
 
-// Checks the file of the name at a place of the catalogue, if somebody holds it.
+// Checks the file of the name at a place of the catalogue, if a tenant holds the name.
 fn check_place<S: LooseFiles>(
     alloc: Global,
     files: &mut CachedStore<S>,

@@ -1,6 +1,6 @@
 use thiserror::Error;
 
-/// Why a call of a vault was not carried out.
+/// Why a call of a vault failed.
 #[derive(Clone, Copy, Debug, PartialEq, Eq, Error)]
 pub enum VaultFault {
     #[error("the store failed")]

@@ -12,7 +12,7 @@ use std::alloc::{AllocError, Global};
 use std::collections::BTreeMap;
 use std::marker::Model;
 
-/// What is wrong with files of objects that tenants hold, by the objects' names, ascending.
+/// What is wrong with the files of objects that tenants hold, by name, ascending.
 #[derive(Drop)]
 pub struct Harms {
     found: BTreeMap<Name, Harm>,
@@ -39,7 +39,7 @@ impl Harms {
         }
     }
 
-    // Notes what is wrong with the file of a name.
+    // Adds what is wrong with the file of a name.
     pub(crate) fn note(&mut self, name: Name, harm: Harm) -> Result<(), AllocError>
         ensures ok { OnOk result (self.new ≡ map.insert self.old name harm) }
         ensures err { OnErr result (self.new ≡ self.old) }
@@ -47,7 +47,7 @@ impl Harms {
         put(&mut self.found, name, harm)
     }
 
-    /// The lines that tell them, one each.
+    /// The lines that report them, one for each name.
     pub fn lines(&self, alloc: Global) -> Result<Vec<u8>, AllocError>
         ensures { IfOk result (λ text. text.items ≡ harm_lines (map.entries self.now)) }
     {

@@ -9,7 +9,7 @@ ghost use Rattle.fork_ledger.specs.Tenants.{VaultState};
 
 use looks::sharp_sweeps;
 
-/// A law, and no work: two lists are equal that are the harms of the same files and held names.
+/// A law, with no code to run: if two lists are the harms of the same files and held names, they are equal.
 pub fn one_list_of_harms()
     ensures { (files : Files) (held : List ℕ → Bool) (first second : Harmed) → AreHarms first files held → AreHarms second files held → first ≡ second }
 {}

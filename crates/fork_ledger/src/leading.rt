@@ -1,24 +1,24 @@
-// What objects lead to, which is learned from their bytes.
-ghost use Rattle.std.specs.Prelude.{◌≡◌, ◌≢◌, ◌⊎◌, ℕ, List, true, is_some, Some, map, IsTrue, IfErr, IfOk, IfSome};
+// Learns the links and the times of objects from their bytes.
+ghost use Rattle.std.specs.Prelude.{◌≡◌, ◌≢◌, ◌⊎◌, ℕ, List, true, is_some, Some, IsTrue, IfErr, IfOk, IfSome};
 ghost use Rattle.std.specs.FinMap.{get};
 ghost use Rattle.git_name.specs.Object.{Object, object_name};
 ghost use Rattle.git_name.specs.Count.{fault_in};
-ghost use Rattle.git_object.specs.ObjectIn.{links_in};
 ghost use Rattle.loose_store.specs.Stored.{Whole};
-ghost use Rattle.fork_ledger.specs.Led.{AreLed};
+ghost use Rattle.fork_ledger.specs.Led.{AreLed, learned_of};
+ghost use Rattle.number_links.specs.Facts.{Learned};
 ghost use Rattle.fork_ledger.specs.Store.{CountsFault};
 
 use crate::fault::VaultFault;
 use crate::reading::read_held;
-use fork_reach::link_names;
+use fork_reach::{link_names, time_of};
 use git_name::{Kind, Name, Sealed};
 use loose_store::LooseFiles;
 use object_table::Holdings;
 use read_cache::CachedStore;
 use std::alloc::Global;
 
-// What the object of this name, of this kind and these bytes, leads to is learned, unless it is known. A
-// blob leads to nothing, which needs no learning.
+// Learns the links and the time of the object of this name, kind and bytes, unless they are known. A blob has no
+// links, so there is nothing to learn.
 pub(crate) fn learn_links(
     alloc: Global,
     holdings: &mut Holdings,
@@ -28,7 +28,7 @@ pub(crate) fn learn_links(
 )
     ensures ledgers { holdings.new.ledgers ≡ holdings.old.ledgers }
     ensures catalogue { holdings.new.catalogue ≡ holdings.old.catalogue }
-    ensures links { (q : List ℕ) (to : List (List ℕ)) → get holdings.new.links q ≡ Some to → (get holdings.old.links q ≡ Some to) ⊎ ((q ≡ name) × (to ≡ map (λ link. link.name) (links_in kind bytes.now))) }
+    ensures links { (q : List ℕ) (one : Learned (List ℕ)) → get holdings.new.links q ≡ Some one → (get holdings.old.links q ≡ Some one) ⊎ ((q ≡ name) × (one ≡ learned_of (record { kind = kind; bytes = bytes.now }))) }
 {
     if matches!(kind, Kind::Blob) || holdings.knows(name) {
         return;
@@ -36,10 +36,13 @@ pub(crate) fn learn_links(
     let Ok(names) = link_names(alloc, kind, bytes) else {
         return;
     };
-    holdings.learn(alloc, name, names.as_slice());
+    let Some(time) = time_of(kind, bytes) else {
+        return;
+    };
+    holdings.learn(alloc, name, names.as_slice(), time);
 }
 
-// The object of a name that some tenant holds, as it is read; what it leads to is learned.
+// Reads the object of a name that some tenant holds, and learns its links.
 pub(crate) fn read_and_learn<S: LooseFiles>(
     alloc: Global,
     files: &mut CachedStore<S>,

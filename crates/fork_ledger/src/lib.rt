@@ -1,5 +1,5 @@
-//! Each tenant's own objects over one store that keeps each object once: those that it sees, and those
-//! that it has staged beside them.
+//! Each tenant's own objects, over one store that keeps each object once: the objects that it sees, and those
+//! that it has staged.
 //! A call for one tenant reads and changes no other's, a call that fails changes none, and a sweep
 //! removes just what nobody holds.
 #![tactic(auto)]

@@ -1,4 +1,4 @@
-// Looks at the catalogue, one place after another.
+// Sweeps the catalogue, one place at a time.
 ghost use Rattle.std.specs.Prelude.{◌≡◌, ◌≢◌, ◌<◌, ◌+◌, IsTrue, IfErr, IfOk, OnOk, OnErr, length, if◌then◌else◌};
 ghost use Rattle.git_name.specs.Count.{fault_in};
 ghost use Rattle.looks.specs.Looks.{Look};
@@ -17,7 +17,7 @@ use object_table::Holdings;
 use read_cache::CachedStore;
 use std::alloc::Global;
 
-// Takes away the file of the next name, which nobody holds, and then the name.
+// Removes the file of the next name, which no tenant holds, and then the name.
 fn take_away<S: LooseFiles>(
     alloc: Global,
     files: &mut CachedStore<S>,
@@ -59,7 +59,7 @@ fn take_away<S: LooseFiles>(
     }
 }
 
-// One look at a catalogue that is not empty. Answers whether a name left.
+// Looks at the next place of a catalogue that is not empty. Returns whether the name was removed.
 pub(crate) fn look_once<S: LooseFiles>(
     alloc: Global,
     files: &mut CachedStore<S>,

@@ -1,4 +1,4 @@
-// Objects that a tenant saw before, of which all is known that its ledger keeps.
+// Stages objects that a tenant saw before and that a survey found, without reading them again.
 ghost use Rattle.std.specs.Prelude.{◌≡◌, ◌∷◌, [], true, IsTrue, OnErr, OnOk};
 ghost use Rattle.std.specs.FinMap.{contains_key};
 ghost use Rattle.looks.specs.Growth.{GrowsAmong};
@@ -19,14 +19,14 @@ use thiserror::Error;
 /// Why an object was not recalled.
 #[derive(Clone, Copy, Debug, PartialEq, Eq, Error)]
 pub enum RecallFault {
-    /// Also where some tenant has an object of its name that is of another kind or length.
+    /// Also if some tenant has an object of this name with another kind or length.
     #[error("no survey found the object")]
     Unknown,
     #[error("no memory")]
     Memory,
 }
 
-// Stages an object that a survey of the store found, and catalogues its name where it is not.
+// Stages an object that a survey of the store found, and adds its name to the catalogue if it is not there.
 pub(crate) fn recall_known<S: LooseFiles>(
     files: &CachedStore<S>,
     holdings: &mut Holdings,
@@ -52,7 +52,7 @@ pub(crate) fn recall_known<S: LooseFiles>(
     }
 }
 
-// Stages an object of this name, kind and length, and catalogues its name where it is not.
+// Stages an object of this name, kind and length, and adds its name to the catalogue if it is not there.
 fn recall(
     holdings: &mut Holdings,
     tenant: &TenantName,

@@ -1,4 +1,4 @@
-// Objects that are received: their names in the catalogue, and their files on the store.
+// Receives objects: their names in the catalogue, and their files on the store.
 ghost use Rattle.std.specs.Prelude.{◌≡◌, ◌||◌, ◌∷◌, [], true, List, ℕ, IsTrue, IfErr, IfOk, OnOk, map as map_list};
 ghost use Rattle.git_name.specs.Object.{Object, object_name};
 ghost use Rattle.git_name.specs.Same.{is_listed, same_name};
@@ -21,7 +21,7 @@ use object_table::{Entry, Holdings};
 use read_cache::CachedStore;
 use std::alloc::{AllocError, Global};
 
-// Catalogues an object's name, and sees to it that its file is whole.
+// Adds an object's name to the catalogue, and makes sure that its file is whole.
 #[tactic(auto, using(crate::proofs::StoredLemmas::stores_alone))]
 pub(crate) fn receive<S: LooseFiles>(
     alloc: Global,
@@ -57,7 +57,7 @@ pub(crate) fn receive<S: LooseFiles>(
     Ok(())
 }
 
-// What a ledger is told of these objects, in their order.
+// The ledger entries of these objects, in order.
 pub(crate) fn entries_of(alloc: Global, objects: &[Sealed]) -> Result<Vec<Entry>, AllocError>
     ensures { IfOk result (λ entries. entries.items ≡ map_list entry_of objects.now) }
 {
@@ -68,7 +68,7 @@ pub(crate) fn entries_of(alloc: Global, objects: &[Sealed]) -> Result<Vec<Entry>
     Ok(entries)
 }
 
-// Receives objects, in order. A fault leaves those before it received.
+// Receives objects, in order. After a fault those before it stay received.
 pub(crate) fn receive_all<S: LooseFiles>(
     alloc: Global,
     files: &mut CachedStore<S>,

@@ -1,6 +1,6 @@
-// Objects that a tenant stages: their names in the catalogue, their files on the store, and their words in one
-// ledger. Where some ledger says of one of these names that its object is of another kind or length, that is
-// told before anything is read.
+// Stages objects for a tenant: their names in the catalogue, their files on the store, and their words in the
+// tenant's ledger. If some ledger has an object of one of these names with another kind or length, that is
+// reported before anything is read.
 ghost use Rattle.std.specs.Prelude.{◌≡◌, ◌∷◌, [], true, false, List, ℕ, Contains, Err, IsTrue, IfErr, OnErr, OnOk, length, map as map_list};
 ghost use Rattle.std.specs.List.{All};
 ghost use Rattle.git_name.specs.Object.{Object, object_name};
@@ -27,7 +27,7 @@ use object_table::{Entry, Holdings, StageFault};
 use read_cache::CachedStore;
 use std::alloc::Global;
 
-// Catalogues an object's name, sees to it that its file is whole, and stages it for a tenant.
+// Adds an object's name to the catalogue, makes sure that its file is whole, and stages it for a tenant.
 pub(crate) fn stage_whole<S: LooseFiles>(
     alloc: Global,
     files: &mut CachedStore<S>,
@@ -60,7 +60,7 @@ pub(crate) fn stage_whole<S: LooseFiles>(
     stage_fit(alloc, files, holdings, tenant, sealed)
 }
 
-// The same of an object that is of the kind and length that each ledger says of its name, if it says any.
+// The same for an object that has the kind and length that each ledger with its name says.
 fn stage_fit<S: LooseFiles>(
     alloc: Global,
     files: &mut CachedStore<S>,
@@ -99,7 +99,7 @@ fn stage_fit<S: LooseFiles>(
     }
 }
 
-// The same of objects, in order, all or none.
+// The same for several objects, in order, all or none.
 pub(crate) fn stage_all_whole<S: LooseFiles>(
     alloc: Global,
     files: &mut CachedStore<S>,
@@ -128,7 +128,7 @@ pub(crate) fn stage_all_whole<S: LooseFiles>(
     stage_all_fit(alloc, files, holdings, tenant, objects)
 }
 
-// Whether each object is of the kind and length that each ledger says of its name, if it says any.
+// Whether each object has the kind and length that each ledger with its name says.
 fn may_stage_all(holdings: &Holdings, objects: &[Sealed]) -> bool
     ensures may { result ≡ true → All (IsAsTold holdings.now.ledgers) objects.now }
     ensures clash { result ≡ false → (object : Object) × Contains objects.now object × (IsAsTold holdings.now.ledgers object → ⊥) }
@@ -142,7 +142,7 @@ fn may_stage_all(holdings: &Holdings, objects: &[Sealed]) -> bool
     true
 }
 
-// Stages objects that are of the kinds and lengths that each ledger says of their names, if it says any.
+// Stages objects that have the kinds and lengths that each ledger with their names says.
 fn stage_all_fit<S: LooseFiles>(
     alloc: Global,
     files: &mut CachedStore<S>,

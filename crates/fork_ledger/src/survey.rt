@@ -11,8 +11,8 @@ use read_cache::CachedStore;
 use std::alloc::{AllocError, Global};
 use std::marker::Model;
 
-/// A store whose objects are read before there is a vault over it. The vault then recalls them for
-/// tenants without reading them again.
+/// A store whose objects are read before a vault is over it. The vault then recalls them for tenants without
+/// reading them again.
 #[derive(Drop)]
 pub struct Survey<S: LooseFiles> {
     pub(crate) files: CachedStore<S>,
@@ -29,7 +29,7 @@ impl<S: LooseFiles> Model for Survey<S> {
 }
 
 impl<S: LooseFiles + Drop> Survey<S> {
-    /// Of this store, with nothing read.
+    /// A survey of this store in which nothing was read yet.
     pub fn new(alloc: Global, files: S) -> Result<Survey<S>, AllocError>
         ensures contents { IfOk result (λ survey. survey.contents ≡ S.contents files) }
         ensures honest { IfOk result (λ survey. survey.honest ≡ S.honest files) }
@@ -41,7 +41,7 @@ impl<S: LooseFiles + Drop> Survey<S> {
 }
 
 impl<S: LooseFiles> Survey<S> {
-    /// The object of this name, if it stands whole.
+    /// The object of this name, if its file is whole.
     pub fn read(&mut self, alloc: Global, name: Name) -> Result<Option<Sealed>, VaultFault>
         ensures found { IsTrue self.old.honest → IfOk result (IsSurveyed self.old.contents name) }
         ensures kept { IsTrue self.old.honest → self.new.contents ≡ self.old.contents }

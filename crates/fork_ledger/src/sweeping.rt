@@ -1,4 +1,4 @@
-// Slices and whole rounds of looks.
+// Sweeps in slices, and whole collections.
 ghost use Rattle.std.specs.Prelude.{◌≡◌, ◌≢◌, ◌≤◌, ◌<◌, ◌+◌, ℕ, IsTrue, IfErr, IfOk, OnOk, OnErr, length, if◌then◌else◌};
 ghost use Rattle.git_name.specs.Count.{fault_in};
 ghost use Rattle.looks.specs.Looks.{Looks, Walks};
@@ -25,8 +25,7 @@ fn number_of(left: bool) -> u64
     if left { 1 } else { 0 }
 }
 
-// So many looks at the most, and fewer only where nothing is left to look at. Answers how many names
-// left.
+// At most `most` looks, and fewer only if the catalogue becomes empty. Returns how many names were removed.
 pub(crate) fn sweep<S: LooseFiles>(
     alloc: Global,
     files: &mut CachedStore<S>,
@@ -61,7 +60,7 @@ pub(crate) fn sweep<S: LooseFiles>(
     Ok(count)
 }
 
-// One whole round, from the beginning until the end is reached. Answers how many names left.
+// One whole round, from the first place to the last. Returns how many names were removed.
 pub(crate) fn collect<S: LooseFiles>(
     alloc: Global,
     files: &mut CachedStore<S>,

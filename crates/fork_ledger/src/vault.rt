@@ -10,7 +10,8 @@ ghost use Rattle.git_name.specs.Count.{fault_in};
 ghost use Rattle.commit_graph.specs.Graph.{IsGraph, name_at, parents_at};
 ghost use Rattle.fork_reach.specs.Known.{AreParents, seen_name, seen_place};
 ghost use Rattle.fork_reach.specs.Objects.{use_of};
-ghost use Rattle.fork_reach.specs.Reach.{is_between, linked_names};
+ghost use Rattle.fork_reach.specs.History.{note_at};
+ghost use Rattle.fork_reach.specs.Reach.{is_between, linked_names, parent_names};
 ghost use Rattle.looks.specs.Growth.{GrowsAmong};
 ghost use Rattle.looks.specs.Looks.{Looks, Walks};
 ghost use Rattle.looks.specs.Places.{at_start};
@@ -42,19 +43,19 @@ use fork_request::TenantName;
 use git_name::{Hashing, Kind, Name, Sealed};
 use indexmap::IndexSet;
 use looks::sharp_collection;
-use loose_store::LooseFiles;
+use loose_store::{FileFault, LooseFiles};
 use object_table::{Holdings, NameSet};
 use read_cache::CachedStore;
 use std::alloc::{AllocError, Global};
 use std::marker::Model;
 
-/// The objects of many tenants, each tenant's its own, over one store that keeps each of them once. What
-/// a tenant stages stands beside what it sees, until it is published or discarded; an object may be
-/// both. Beside the store stand what is known of each tenant's objects without their bytes, and the
-/// catalogue of all names that may be on the store.
+/// The objects of many tenants, over one store that keeps each object once. A tenant sees some objects, and has
+/// staged some until they are published or discarded; an object may be both. Beside the store, a vault keeps
+/// what is known of each tenant's objects without their bytes, and the catalogue of all names that may be on the
+/// store.
 ///
-/// Clauses with the premise that the store is honest tell objects; those without it, which speak of
-/// names, kinds and lengths, hold over any store.
+/// Clauses with the premise that the store is honest speak of objects. Clauses without it speak of names, kinds
+/// and lengths, and hold over any store.
 #[derive(Drop)]
 pub struct Vault<S: LooseFiles> {
     files: CachedStore<S>,
@@ -88,7 +89,7 @@ impl<S: LooseFiles> Model for Vault<S> {
 }
 
 impl<S: LooseFiles + Drop> Vault<S> {
-    /// Over the store of a survey, with no tenants. Each stored name is catalogued, ascending, and nobody holds it.
+    /// A vault over the store of a survey, without tenants. The catalogue has the name of each file, ascending.
     pub fn over(alloc: Global, survey: Survey<S>) -> Result<Vault<S>, VaultFault>
         ensures empty { IfOk result (λ vault. vault.tenants ≡ map.empty) }
         ensures store { IfOk result (λ vault. IsOver survey.contents survey.honest survey.failures vault) }
@@ -121,12 +122,12 @@ impl<S: LooseFiles> Vault<S> {
         self.files.close()
     }
 
-    /// How names of objects are to be hashed.
+    /// How to hash names of objects.
     pub fn hashing(&self) -> Hashing {
         self.files.hashing()
     }
 
-    /// Adds a tenant that has no objects, unless it is there.
+    /// Adds a tenant without objects, unless it exists.
     pub fn add(&mut self, alloc: Global, tenant: TenantName) -> Result<(), AllocError>
         ensures ok { OnOk result (self.new.tenants ≡ with_tenant self.old.tenants tenant) }
         ensures err { OnErr result (self.new.tenants ≡ self.old.tenants) }
@@ -135,7 +136,7 @@ impl<S: LooseFiles> Vault<S> {
         self.holdings.add(alloc, tenant)
     }
 
-    /// Whether this tenant is there.
+    /// Whether this tenant exists.
     pub fn contains(&self, tenant: &TenantName) -> bool
         ensures { result ≡ map.contains_key self.now.tenants tenant.now }
     {
@@ -192,8 +193,8 @@ impl<S: LooseFiles> Vault<S> {
         read_and_learn(alloc, &mut self.files, &mut self.holdings, name)
     }
 
-    /// The object that a tenant sees under this name, its kind and its bytes, lent where its file lies in
-    /// memory and need not be hashed; nothing where it has to be read.
+    /// The kind and the bytes of the object that a tenant sees under this name, borrowed if its file is in memory
+    /// and need not be hashed; `None` if it has to be read.
     pub fn lend(&self, tenant: &TenantName, name: Name) -> Option<(Kind, &[u8])>
         ensures found { IfSome result (λ lent. IsTrue self.now.honest × (map.get (private_of self.now.tenants tenant.now).visible name ≡ Some (record { kind = lent.0; bytes = lent.1.now }))) }
         ensures named { IfSome result (λ lent. object_name (record { kind = lent.0; bytes = lent.1.now }) ≡ name) }
@@ -204,7 +205,7 @@ impl<S: LooseFiles> Vault<S> {
         None
     }
 
-    /// The same of an object that a tenant sees or has staged.
+    /// The same for an object that a tenant sees or has staged.
     pub fn lend_held(&self, tenant: &TenantName, name: Name) -> Option<(Kind, &[u8])>
         ensures found { IfSome result (λ lent. IsTrue self.now.honest × (map.get (both_of (private_of self.now.tenants tenant.now)) name ≡ Some (record { kind = lent.0; bytes = lent.1.now }))) }
         ensures named { IfSome result (λ lent. object_name (record { kind = lent.0; bytes = lent.1.now }) ≡ name) }
@@ -215,7 +216,7 @@ impl<S: LooseFiles> Vault<S> {
         self.files.lend(name)
     }
 
-    /// Comes to know what an object that a tenant sees or has staged leads to, where it is lent.
+    /// Learns the links of an object that a tenant sees or has staged, if its bytes can be borrowed.
     pub fn learn_links(&mut self, alloc: Global, tenant: &TenantName, name: Name)
         ensures { self.new ≡ self.old }
     {
@@ -228,16 +229,16 @@ impl<S: LooseFiles> Vault<S> {
         learn_links(alloc, &mut self.holdings, name, kind, bytes);
     }
 
-    /// Keeps all that links lead to from these names, if the tenant sees it and it is known, so that it need
-    /// not be found again. It asks no store.
+    /// Keeps the set of all that these names reach, if the tenant sees all of it and its links are known, so that
+    /// it need not be found again. It does not ask the store.
     pub fn keep_reached(&mut self, alloc: Global, tenant: &TenantName, names: &[Name])
         ensures { self.new ≡ self.old }
     {
         self.holdings.keep_reached(alloc, tenant, names);
     }
 
-    /// The names of what a tenant sees that links lead to from the wanted ones, and from none of the
-    /// excluded ones; nothing where it is not known what an object on the way leads to. It asks no store.
+    /// The names of what a tenant sees that the wanted names reach and the excluded names do not; `None` if the
+    /// links of an object on the way are not known. It does not ask the store.
     pub fn known_between(
         &self,
         alloc: Global,
@@ -252,6 +253,41 @@ impl<S: LooseFiles> Vault<S> {
         ensures rooted { excluded.now ≡ [] → IfOk result (λ known. IfSome known (λ found. (name : List ℕ) → Contains wanted.now name → map.contains_key (private_of self.now.tenants tenant.now).visible name ≡ true → contains same_name found name ≡ true)) }
     {
         self.holdings.between(alloc, tenant, wanted, excluded)
+    }
+
+    /// The names of what a tenant sees that parents of commits lead to from the wanted ones, and from none of the
+    /// excluded ones; nothing where the parents of an object on the way are not known. It asks no store.
+    pub fn known_history(
+        &self,
+        alloc: Global,
+        tenant: &TenantName,
+        wanted: &[Name],
+        excluded: &[Name],
+    ) -> Result<Option<IndexSet<Name, Hashing>>, AllocError>
+        ensures found { IsTrue self.now.honest → IfOk result (λ known. IfSome known (λ found. (name : List ℕ) → contains same_name found name ≡ is_between (parent_names (private_of self.now.tenants tenant.now).visible) (private_of self.now.tenants tenant.now).visible wanted.now excluded.now name)) }
+
+        // Over any store.
+        ensures there { IfOk result (λ known. IfSome known (λ found. (name : List ℕ) → contains same_name found name ≡ true → map.contains_key (private_of self.now.tenants tenant.now).visible name ≡ true)) }
+    {
+        self.holdings.history(alloc, tenant, wanted, excluded)
+    }
+
+    /// The committer's seconds since 1970 of a commit that a tenant sees, and 0 of another object, where they are
+    /// known. It asks no store.
+    pub fn known_seconds(&self, tenant: &TenantName, name: Name) -> Option<u64>
+        ensures told { IsTrue self.now.honest → IfSome result (λ seconds. seconds ≡ (note_at (private_of self.now.tenants tenant.now).visible name).seconds) }
+
+        // Over any store.
+        ensures there { IfSome result (λ seconds. map.contains_key (private_of self.now.tenants tenant.now).visible name ≡ true) }
+    {
+        let is_seen = self.holdings.sees(tenant, name);
+        if !is_seen {
+            return None;
+        }
+        let Some(time) = self.holdings.time(name) else {
+            return None;
+        };
+        Some(time.saturating_sub(1))
     }
 
     /// How many commits there are whose parents are known without reading them.
@@ -321,18 +357,17 @@ impl<S: LooseFiles> Vault<S> {
         learn(alloc, &mut self.files, &mut self.graph, commit)
     }
 
-    /// What is known of the object that a tenant sees or has staged under this name. It asks no store.
+    /// What is known of the object that a tenant sees or has staged under this name. It does not ask the store.
     pub fn kind_of(&self, tenant: &TenantName, name: Name) -> Option<Held>
         ensures { result ≡ held_in (private_of self.now.tenants tenant.now) name }
     {
         held_of(self.holdings.word(tenant, name))
     }
 
-    /// Stages an object for a tenant. Where the tenant has staged one of its name, that one stays;
-    /// where it sees one, that one stands for it. Where no file of the name stands one is written. A
-    /// whole file is compared and never written over; one that is not whole is written anew, where no
-    /// tenant sees the name or has staged it. Where some tenant has an object of its name that is of
-    /// another kind or length, that is told before anything is read.
+    /// Stages an object for a tenant. If the tenant has staged one of this name, that one stays; if it sees one,
+    /// that one counts. If there is no file of the name, it is written. A whole file is compared and never
+    /// overwritten. A file that is not whole is overwritten if no tenant holds the name. If some tenant has an
+    /// object of this name with another kind or length, that is reported before anything is read.
     pub fn stage(
         &mut self,
         alloc: Global,
@@ -356,9 +391,9 @@ impl<S: LooseFiles> Vault<S> {
         stage_whole(alloc, &mut self.files, &mut self.holdings, tenant, sealed)
     }
 
-    /// Stages objects for a tenant, in order, each as `stage` does, all or none: a fault leaves what the
-    /// tenant had staged. The files that were written before it stay until looks take away those that
-    /// nobody holds.
+    /// Stages objects for a tenant, in order, each as `stage` does, all or none: after a fault the tenant has
+    /// staged what it had before. Files that were written before the fault stay until a sweep removes those that
+    /// no tenant holds.
     pub fn stage_all(
         &mut self,
         alloc: Global,
@@ -383,9 +418,9 @@ impl<S: LooseFiles> Vault<S> {
         stage_all_whole(alloc, &mut self.files, &mut self.holdings, tenant, objects)
     }
 
-    /// Stages the object of this name for a tenant that saw it before, where a survey of the store found
-    /// it there, of this kind and of so many bytes. It asks no store. Where some tenant has an object of its
-    /// name that is of another kind or length, it counts as not found.
+    /// Stages the object of this name for a tenant that saw it before, if a survey of the store found it with this
+    /// kind and length. It does not ask the store. If some tenant has an object of this name with another kind or
+    /// length, it counts as not found.
     pub fn recall(
         &mut self,
         tenant: &TenantName,
@@ -404,7 +439,7 @@ impl<S: LooseFiles> Vault<S> {
         recall_known(&self.files, &mut self.holdings, tenant, name, kind, length)
     }
 
-    /// Forgets what was surveyed.
+    /// Clears the survey.
     pub fn end_survey(&mut self)
         ensures { self.new ≡ self.old }
     {
@@ -418,14 +453,14 @@ impl<S: LooseFiles> Vault<S> {
         self.holdings.names(alloc, tenant)
     }
 
-    /// How many objects a tenant sees, in linear time of what it holds.
+    /// How many objects a tenant sees, in time linear in what it holds.
     pub fn seen_count(&self, tenant: &TenantName) -> usize
         ensures { result ≡ map.len (private_of self.now.tenants tenant.now).visible }
     {
         self.holdings.seen_count(tenant)
     }
 
-    /// What a tenant has staged becomes visible to it. It takes no memory, and asks no store.
+    /// The tenant sees what it has staged. It allocates nothing, and does not ask the store.
     pub fn publish(&mut self, tenant: &TenantName)
         ensures tenants { self.new.tenants ≡ at_tenant self.old.tenants tenant.now with_published }
         ensures store { LeavesStore self.old self.new }
@@ -433,7 +468,7 @@ impl<S: LooseFiles> Vault<S> {
         self.holdings.publish(tenant);
     }
 
-    /// What a tenant has staged goes. It takes no memory, and asks no store.
+    /// The tenant has staged nothing. It allocates nothing, and does not ask the store.
     pub fn discard(&mut self, tenant: &TenantName)
         ensures tenants { self.new.tenants ≡ at_tenant self.old.tenants tenant.now with_discarded }
         ensures store { LeavesStore self.old self.new }
@@ -441,7 +476,7 @@ impl<S: LooseFiles> Vault<S> {
         self.holdings.discard(tenant);
     }
 
-    /// Of what a tenant sees, keeps the objects of these names alone. It takes no memory, and asks no
+    /// Of what a tenant sees, only the objects of these names stay. It allocates nothing, and does not ask the
     /// store.
     pub fn keep_only<N: NameSet>(&mut self, tenant: &TenantName, names: &N)
         ensures tenants { self.new.tenants ≡ at_tenant self.old.tenants tenant.now (with_kept (N.names names.now)) }
@@ -450,8 +485,8 @@ impl<S: LooseFiles> Vault<S> {
         self.holdings.keep_only(tenant, names);
     }
 
-    /// Whether what a tenant sees, with the objects of these names that another one sees beside it, is of so
-    /// many bytes of use at the most, in linear time of the names.
+    /// Whether the use of what tenant `to` sees, together with the objects of these names that tenant `from` sees, is
+    /// at most `limit`, in time linear in the names.
     pub fn has_room(
         &self,
         to: &TenantName,
@@ -464,8 +499,8 @@ impl<S: LooseFiles> Vault<S> {
         self.holdings.has_room(to, from, names, limit)
     }
 
-    /// A tenant comes to see the objects of these names that another one sees, beside those that it sees.
-    /// What it has staged stays. All or none, in linear time of the names; it asks no store.
+    /// Tenant `to` comes to see the objects of these names that tenant `from` sees, all or none, in time linear in
+    /// the names. What it has staged stays. It does not ask the store.
     pub fn adopt(
         &mut self,
         alloc: Global,
@@ -490,23 +525,23 @@ impl<S: LooseFiles> Vault<S> {
         Ok(())
     }
 
-    /// The bytes of use of what a tenant sees, in constant time behind the look-up of the tenant.
+    /// The use of what a tenant sees, in bytes, in constant time after the tenant is looked up.
     pub fn used(&self, tenant: &TenantName) -> u128
         ensures { result ≡ capped (use_of (private_of self.now.tenants tenant.now).visible) }
     {
         self.holdings.used(tenant)
     }
 
-    /// Whether what a tenant sees and has staged is of so many bytes of use at the most, in constant
-    /// time behind the look-up of the tenant.
+    /// Whether the use of what a tenant sees and has staged is at most `limit`, in constant time after the tenant is
+    /// looked up.
     pub fn is_within(&self, tenant: &TenantName, limit: u64) -> bool
         ensures { result ≡ nat_le (use_of (both_of (private_of self.now.tenants tenant.now))) limit }
     {
         self.holdings.is_within(tenant, limit)
     }
 
-    /// Looks at so many places of the catalogue at the most, and takes away the files of names that
-    /// nobody holds. Answers how many names left. A fault leaves what was taken away until then away.
+    /// Looks at up to `most` places of the catalogue, and removes the files of names that no tenant holds. Returns how
+    /// many names were removed. After a fault what was removed until then stays removed.
     pub fn sweep(&mut self, alloc: Global, most: u64) -> Result<u64, VaultFault>
         ensures kept { IsTrue self.old.honest → self.new.tenants ≡ self.old.tenants }
         ensures stays { IsTrue self.old.honest → (name : List ℕ) → is_taken self.old.tenants name ≡ true → map.get self.new.files name ≡ map.get self.old.files name }
@@ -535,9 +570,8 @@ impl<S: LooseFiles> Vault<S> {
         )
     }
 
-    /// Looks at each place of the catalogue, from the beginning until the end is reached, and takes away
-    /// the files of names that nobody holds. Answers how many names left. A fault leaves what was taken
-    /// away until then away.
+    /// Looks at each place of the catalogue, from the first to the last, and removes the files of names that no tenant
+    /// holds. Returns how many names were removed. After a fault what was removed until then stays removed.
     pub fn collect(&mut self, alloc: Global) -> Result<u64, VaultFault>
         ensures kept { IsTrue self.old.honest → self.new.tenants ≡ self.old.tenants }
         ensures stays { IsTrue self.old.honest → (name : List ℕ) → is_taken self.old.tenants name ≡ true → map.get self.new.files name ≡ map.get self.old.files name }
@@ -558,8 +592,8 @@ impl<S: LooseFiles> Vault<S> {
         collect(alloc, &mut self.files, &mut self.holdings, &mut self.graph)
     }
 
-    /// What is wrong with the files of names that some tenant holds. Each of them is read once, past all
-    /// copies, and nothing is changed.
+    /// What is wrong with the files of names that some tenant holds. Each file is read once, from the store and not
+    /// from a cache, and nothing is changed.
     pub fn faulty(&mut self, alloc: Global) -> Result<Harms, VaultFault>
         ensures sound { IsTrue self.old.honest → IfOk result (λ harms. map.entries harms ≡ []) }
         ensures kept { IsTrue self.old.honest → self.new.tenants ≡ self.old.tenants }
@@ -577,14 +611,40 @@ impl<S: LooseFiles> Vault<S> {
         check_all(alloc, &mut self.files, &self.holdings)
     }
 
-    /// How many names are catalogued.
+    /// Makes the file of each object that was staged survive a loss of power. After a failure it always fails.
+    pub fn sync(&mut self, alloc: Global) -> Result<(), FileFault>
+        ensures { self.new ≡ self.old }
+    {
+        self.files.sync(alloc)
+    }
+
+    /// Does some of the work of the next `sync`, if that has much to do. It is called between requests.
+    pub fn sync_ahead(&mut self, alloc: Global) -> Result<(), FileFault>
+        ensures { self.new ≡ self.old }
+    {
+        self.files.sync_ahead(alloc)
+    }
+
+    /// Whether a file that a sweep removed would be back if the store were opened again.
+    pub fn has_removed(&self) -> bool {
+        self.files.has_removed()
+    }
+
+    /// Makes the removals of sweeps final. After an `Err` some of the removed files may still come back.
+    pub fn forget_removed(&mut self, alloc: Global) -> Result<(), FileFault>
+        ensures { self.new ≡ self.old }
+    {
+        self.files.forget_removed(alloc)
+    }
+
+    /// How many names the catalogue has.
     pub fn census(&self) -> u64
         ensures names { result ≡ length self.now.places.names }
     {
         self.holdings.len() as u64
     }
 
-    /// What holds of every vault between calls, for who is to show something of it: nothing is done.
+    /// What holds of every vault between calls. It does nothing; proofs call it for its clauses.
     pub fn invariant(&self)
         ensures place { self.now.places.place ≤ length self.now.places.names }
         ensures distinct { IsDistinct same_name self.now.places.names }

@@ -4,7 +4,8 @@ ghost use Rattle.fork_program.specs.Serving.{IsConnection, IsLost, IsUnbound, Is
 use crate::fault::Fault;
 use crate::keep::Keep;
 use crate::listening::of_socket;
-use crate::table::{MOST_WAITING, Table};
+use crate::peer::MOST_WAITING;
+use crate::table::Table;
 use fork_host::Host;
 use fork_wire::{Journal, NoJournal, serve_round};
 use loose_store::LooseFiles;

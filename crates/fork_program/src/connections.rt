@@ -1,6 +1,7 @@
 ghost use Rattle.std.specs.Prelude.{◌≡◌, ◌⊎◌, OnErr, OnOk, IfErr, true};
 ghost use Rattle.fork_program.specs.Serving.{AreSomeVisits, AreVisits, IsConnection, IsLost, IsUnbound, IsVisit};
 
+use crate::accepting::next_stream;
 use crate::fault::Fault;
 use crate::keep::Keep;
 use crate::listening::of_socket;
@@ -16,9 +17,9 @@ use std::net::Shutdown;
 use std::os::unix::net::{UnixListener, UnixStream};
 use std::time::Clock;
 
-// A connection to a host that a folder keeps pauses before a frame if more than these bytes have come, so that its state
-// can be saved. A journal grows by this much and one frame at most before that.
-const LONG: u64 = 67_108_864;
+// A connection to a host that a folder keeps pauses before a frame if more than these bytes have come, so that its
+// state can be saved.
+const PAUSE: u64 = 4096;
 
 // Serves the frames of a peer up to its end, or to where it pauses, and says whether it is to go on. A session that
 // could not be kept is told; any other end is the peer's own.
@@ -79,7 +80,7 @@ fn visits<H: Files<File = File> + AllocGlobal + Clock, S: LooseFiles>(
         if !goes_on {
             return Ok(());
         }
-        keep.settle(alloc, host)?;
+        keep.settle_after(alloc, host, false)?;
     }
     Ok(())
 }
@@ -95,7 +96,7 @@ fn kept_connection<H: Files<File = File> + AllocGlobal + Clock, S: LooseFiles>(
     ensures served { IsConnection host.old host.new }
     ensures cause { IfErr result IsLost }
 {
-    let peer = Peer::new(rt, stream, LONG);
+    let peer = Peer::new(rt, stream, PAUSE);
     let Ok(mut reader) = Frames::new(alloc, &peer) else {
         return Ok(());
     };
@@ -120,8 +121,8 @@ pub fn serve_connections<H: Clock, S: LooseFiles>(
     ensures cause { IfErr result IsUnbound }
 {
     for _ in 0..connections {
-        match listener.accept() {
-            Ok((stream, _)) => {
+        match next_stream(rt, listener) {
+            Ok(stream) => {
                 connection(rt, host, alloc, &stream);
             }
             Err(error) => return Err(of_socket(error)),
@@ -130,8 +131,8 @@ pub fn serve_connections<H: Clock, S: LooseFiles>(
     Ok(())
 }
 
-/// Serves this many connections, and keeps what they do: the state is saved after one, and after each long part of
-/// one, if the journal has grown too long. If anything could not be kept, nothing more is served.
+/// Serves this many connections, and keeps what they do: the state is saved after a connection, or within it, if the
+/// journal is long. If anything could not be kept, nothing more is served.
 pub fn serve_kept_connections<H: Files<File = File> + AllocGlobal + Clock, S: LooseFiles>(
     rt: &H,
     host: &mut Host<S>,
@@ -145,8 +146,8 @@ pub fn serve_kept_connections<H: Files<File = File> + AllocGlobal + Clock, S: Lo
     ensures cause { IfErr result (λ fault. IsUnbound fault ⊎ IsLost fault) }
 {
     for _ in 0..connections {
-        let stream = match listener.accept() {
-            Ok((stream, _)) => stream,
+        let stream = match next_stream(rt, listener) {
+            Ok(stream) => stream,
             Err(error) => return Err(of_socket(error)),
         };
         kept_connection(rt, host, alloc, keep, &stream)?;

@@ -1,3 +1,4 @@
+use crate::stall::Stall;
 use crate::watch::Watch;
 use mio::net::UnixStream;
 use std::alloc::{AllocError, Global};
@@ -6,7 +7,7 @@ use std::io;
 use std::io::{Read, Write};
 use std::net::Shutdown;
 use std::rc::Rc;
-use std::time::Instant;
+use std::time::{Duration, Instant};
 
 /// What comes of a peer that is served beside others.
 #[derive(Drop)]
@@ -21,6 +22,7 @@ pub struct Outgoing {
     /// By this number the system tells that something happened at it.
     pub number: usize,
     watch: Cell<Watch>,
+    stall: Cell<Stall>,
 }
 
 /// The two ends of a connection that begins.
@@ -39,6 +41,7 @@ pub fn ends_of(
         stream,
         number,
         watch: Cell::new(Watch::new(now)),
+        stall: Cell::new(Stall::new(now)),
     };
     Ok((incoming, outgoing))
 }
@@ -66,11 +69,23 @@ impl Outgoing {
     pub fn note(&self, now: Instant, frames: u64, waiting: usize, has_begun: bool) {
         self.watch
             .set(self.watch.get().after(now, frames, waiting, has_begun));
+        self.stall.set(self.stall.get().after(now, frames, waiting));
+    }
+
+    /// The peer has so much longer for what it is doing, since the host did something else.
+    pub fn put_off(&self, by: Duration) {
+        self.watch.set(self.watch.get().put_off(by));
+        self.stall.set(self.stall.get().put_off(by));
     }
 
     /// What is waited for.
     pub fn watch(&self) -> Watch {
         self.watch.get()
+    }
+
+    /// Since when nothing of a reply has been taken.
+    pub fn stall(&self) -> Stall {
+        self.stall.get()
     }
 
     /// Tells the peer that nothing more comes.

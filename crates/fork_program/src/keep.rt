@@ -7,29 +7,34 @@ use fork_host::Host;
 use fork_wire::{Written, write_uploads};
 use git_name::Name;
 use loose_store::{
-    LooseFiles, begin_journal, clear_journals, empty_swept, has_swept, journal_name, read_state,
-    settle_journal, write_state,
+    FileFault, LooseFiles, begin_journal, clear_journals, journal_name, read_state, settle_journal,
+    write_state,
 };
 use std::alloc::Global;
-use std::fs::{File, Files};
+use std::fs::{File, Files, OpenFile};
+use std::{fs, io};
 
-// A journal may grow by so many bytes, however small the state is.
+// A journal may always grow by so many bytes.
 const SPARE: u64 = 1_048_576;
 
-/// A folder that keeps a host: its state as it was last saved, and behind it the journal of what was
-/// done since.
+// The requests of a journal may visit so many objects: about a second of work.
+const MOST_VISITED: u64 = 16_777_216;
+
+/// A folder that keeps a host: its state as it was last saved, and the journal of what was done since.
 #[derive(Drop)]
 pub struct Keep<'a, H> {
     rt: &'a H,
     dir: &'a str,
     pub(crate) journal: Written<LogWriter<File>>,
-    // The journal's name, which is that of the state that stands there.
+    // The journal's name, which is that of the state in the folder.
     name: Name,
     // How many bytes that state has, and the uploads at the journal's beginning.
     saved: u64,
+    // Whether its journals are synced.
+    syncs: bool,
 }
 
-// A state that is to come, its name, and the journal after it, which may begin with the open uploads.
+// A state to be saved, its name, and the journal after it, which may begin with the open uploads.
 #[derive(Drop)]
 struct Draft {
     state: Vec<u8>,
@@ -38,7 +43,7 @@ struct Draft {
     uploads: u64,
 }
 
-// The name of the state that stands in a folder.
+// The name of the state in a folder.
 fn standing_name<H: Files<File = File>>(rt: &H, alloc: Global, dir: &str) -> Result<Name, Fault>
     ensures { IfErr result (λ fault. fault ≡ Fault.NotSaved) }
 {
@@ -49,8 +54,15 @@ fn standing_name<H: Files<File = File>>(rt: &H, alloc: Global, dir: &str) -> Res
     }
 }
 
-// A new journal of nothing after the state of this name, which is begun over the standing one. What lies
-// beside the standing journal goes first, so that a kill leaves this one alone there.
+// Syncs the names in the folder of journals. So a journal that was cleared does not come back beside one that says
+// nothing of it.
+fn sync_journals<H: Files<File = File>>(rt: &H, alloc: Global, dir: &str) -> io::Result<()> {
+    let path = format!(in alloc; "{dir}/journal")?;
+    fs::open(rt, path.as_str())?.sync_all()
+}
+
+// An empty journal after the state of this name, begun over the state in the folder. What is beside the journal in
+// the folder is removed first, so a kill leaves at most this one beside it.
 fn unnamed<H: Files<File = File> + AllocGlobal>(
     rt: &H,
     alloc: Global,
@@ -66,14 +78,16 @@ fn unnamed<H: Files<File = File> + AllocGlobal>(
     let Ok(file) = begin_journal(rt, alloc, dir, standing) else {
         return Err(Fault::NotSaved);
     };
+    let Ok(()) = sync_journals(rt, alloc, dir) else {
+        return Err(Fault::NotSaved);
+    };
     match LogWriter::new(alloc, file, *name.as_bytes()) {
         Ok(journal) => Ok(journal),
         Err(_) => Err(Fault::NotSaved),
     }
 }
 
-// Drafts the host's state, and behind it a journal of nothing. The folder has its old state still, and its
-// journal.
+// Drafts the host's state, with an empty journal. The folder still has its old state and its journal.
 fn closed<H: Files<File = File> + AllocGlobal, S: LooseFiles>(
     rt: &H,
     alloc: Global,
@@ -115,7 +129,7 @@ fn drafted<H: Files<File = File> + AllocGlobal, S: LooseFiles>(
     drafted_as(rt, alloc, dir, standing, host, text)
 }
 
-// Drafts a state of this text, and behind it a journal that begins with the host's open uploads.
+// Drafts a state of this text, with a journal that begins with the host's open uploads.
 fn drafted_as<H: Files<File = File> + AllocGlobal, S: LooseFiles>(
     rt: &H,
     alloc: Global,
@@ -141,7 +155,7 @@ fn drafted_as<H: Files<File = File> + AllocGlobal, S: LooseFiles>(
     })
 }
 
-// A drafted state that has its place.
+// A drafted state that is in place.
 #[derive(Drop)]
 struct Settled {
     journal: LogWriter<File>,
@@ -149,17 +163,20 @@ struct Settled {
     saved: u64,
 }
 
-// Puts a drafted state in its place: the journal first, under the name of the state that is to come, and
-// then the state, unless it is the one that stands there. So at each moment the state that stands there has
-// its journal, and one step, of the state's name or of the journal's, takes the old ones away.
-fn put<H: Files<File = File> + AllocGlobal>(
+// Puts a host's drafted state in its place: the object files are synced first, then the journal gets the name
+// of the state that is to come, and then comes the state, unless it is the one that stands there. So at each
+// moment the state that stands there has its journal and its objects, and one step, of the state's name or of
+// the journal's, takes the old ones away.
+fn put<H: Files<File = File> + AllocGlobal, S: LooseFiles>(
     rt: &H,
     alloc: Global,
     dir: &str,
+    host: &mut Host<S>,
     standing: Option<Name>,
     draft: Draft,
 ) -> Result<Settled, Fault>
-    ensures { IfErr result (λ fault. fault ≡ Fault.NotSaved) }
+    ensures cause { IfErr result (λ fault. fault ≡ Fault.NotSaved) }
+    ensures host { host.new ≡ host.old }
 {
     let Draft {
         state,
@@ -167,6 +184,9 @@ fn put<H: Files<File = File> + AllocGlobal>(
         journal,
         uploads,
     } = draft;
+    let Ok(()) = host.sync(alloc) else {
+        return Err(Fault::NotSaved);
+    };
     let Ok(()) = settle_journal(rt, alloc, dir, name, journal.writer()) else {
         return Err(Fault::NotSaved);
     };
@@ -175,9 +195,9 @@ fn put<H: Files<File = File> + AllocGlobal>(
             return Err(Fault::NotSaved);
         };
     }
-    // What is left of older journals, and of what was swept, does no harm, and goes at the next saving.
+    // What is left of older journals, and of what was swept, does no harm. The next saving removes it.
     let _cleared = clear_journals(&rt, alloc, dir, name);
-    let _emptied = empty_swept(&rt, alloc, dir);
+    let _forgotten = host.forget_removed(alloc);
     Ok(Settled {
         journal,
         name,
@@ -185,8 +205,8 @@ fn put<H: Files<File = File> + AllocGlobal>(
     })
 }
 
-/// Saves the host's state in its folder, in the place of the one that stands there, with a journal of its
-/// open uploads behind it. After an `Err` the folder has its old state or this one, and what belongs to it.
+/// Saves the host's state in its folder, replacing the one there, with a journal of its open uploads. After an
+/// `Err` the folder has its old state or this one, and what belongs to it.
 pub fn save<H: Files<File = File> + AllocGlobal, S: LooseFiles>(
     rt: &H,
     alloc: Global,
@@ -198,14 +218,14 @@ pub fn save<H: Files<File = File> + AllocGlobal, S: LooseFiles>(
 {
     let standing = standing_name(rt, alloc, dir)?;
     let draft = drafted(rt, alloc, dir, standing, host)?;
-    match put(rt, alloc, dir, None, draft) {
+    match put(rt, alloc, dir, host, None, draft) {
         Ok(_settled) => Ok(()),
         Err(fault) => Err(fault),
     }
 }
 
-/// Saves this text in the host's folder, in the place of its state, with a journal of the host's open
-/// uploads behind it. After an `Err` the folder has its old state or this one, and what belongs to it.
+/// Saves this text as the state in the host's folder, with a journal of the host's open uploads. After an `Err`
+/// the folder has its old state or this one, and what belongs to it.
 pub fn save_as<H: Files<File = File> + AllocGlobal, S: LooseFiles>(
     rt: &H,
     alloc: Global,
@@ -217,9 +237,20 @@ pub fn save_as<H: Files<File = File> + AllocGlobal, S: LooseFiles>(
 {
     let standing = standing_name(rt, alloc, dir)?;
     let draft = drafted_as(rt, alloc, dir, standing, host, text)?;
-    match put(rt, alloc, dir, None, draft) {
+    match put(rt, alloc, dir, host, None, draft) {
         Ok(_settled) => Ok(()),
         Err(fault) => Err(fault),
+    }
+}
+
+// Syncs some object files before the next saving does, if there are many.
+fn sync_ahead<S: LooseFiles>(alloc: Global, host: &mut Host<S>) -> Result<(), Fault>
+    ensures cause { IfErr result (λ fault. fault ≡ Fault.NotSaved) }
+    ensures host { host.new ≡ host.old }
+{
+    match host.sync_ahead(alloc) {
+        Ok(()) => Ok(()),
+        Err(_) => Err(Fault::NotSaved),
     }
 }
 
@@ -232,40 +263,46 @@ fn is_uploading<S: LooseFiles>(alloc: Global, host: &Host<S>) -> bool {
 }
 
 impl<'a, H: Files<File = File> + AllocGlobal> Keep<'a, H> {
-    /// Saves the host's state in its folder, and begins a journal behind it. After an `Err` the folder
+    /// Saves the host's state in its folder, and begins a journal after it. After an `Err` the folder
     /// has its old state or this one, and what belongs to it.
     pub fn begin<S: LooseFiles>(
         rt: &'a H,
         alloc: Global,
         dir: &'a str,
         host: &mut Host<S>,
+        syncs: bool,
     ) -> Result<Keep<'a, H>, Fault>
         ensures cause { IfErr result (λ fault. fault ≡ Fault.NotSaved) }
+        ensures syncs { IfOk result (λ keep. keep.syncs ≡ syncs) }
         ensures saved { IsSaved host.old host.new }
     {
         let standing = standing_name(rt, alloc, dir)?;
         match drafted(rt, alloc, dir, standing, host) {
-            Ok(draft) => Keep::over(rt, alloc, dir, None, draft),
+            Ok(draft) => Keep::over(rt, alloc, dir, host, None, draft, syncs),
             Err(fault) => Err(fault),
         }
     }
 
-    // The folder with a drafted state in its place.
-    fn over(
+    // The folder with a host's drafted state in its place.
+    fn over<S: LooseFiles>(
         rt: &'a H,
         alloc: Global,
         dir: &'a str,
+        host: &mut Host<S>,
         standing: Option<Name>,
         draft: Draft,
+        syncs: bool,
     ) -> Result<Keep<'a, H>, Fault>
-        ensures { IfErr result (λ fault. fault ≡ Fault.NotSaved) }
+        ensures cause { IfErr result (λ fault. fault ≡ Fault.NotSaved) }
+        ensures host { host.new ≡ host.old }
+        ensures syncs { IfOk result (λ keep. keep.syncs ≡ syncs) }
     {
         let Settled {
             journal,
             name,
             saved,
-        } = put(rt, alloc, dir, standing, draft)?;
-        let Ok(journal) = Written::new(alloc, journal) else {
+        } = put(rt, alloc, dir, host, standing, draft)?;
+        let Ok(journal) = Written::new(alloc, journal, syncs) else {
             return Err(Fault::NotSaved);
         };
         Ok(Keep {
@@ -274,16 +311,17 @@ impl<'a, H: Files<File = File> + AllocGlobal> Keep<'a, H> {
             journal,
             name,
             saved,
+            syncs,
         })
     }
 
-    /// Saves the host's state behind the end of serving, with a journal of nothing, so that no open upload
-    /// outlives it, and lets go of what was swept. Where serving ended as the folder could not be written,
-    /// the folder stays as it is, as behind a kill. After an `Err` the folder has what it had, or this state.
+    /// Saves the host's state at the end of serving, with an empty journal, so no open upload outlives it, and
+    /// makes sweeps final. If serving ended because the folder could not be written, the folder stays as it is,
+    /// as after a kill. After an `Err` the folder has what it had, or this state.
     pub fn end<S: LooseFiles>(
         &self,
         alloc: Global,
-        host: &Host<S>,
+        host: &mut Host<S>,
         served: &Result<(), Fault>,
     ) -> Result<(), Fault>
         ensures { IfErr result (λ fault. fault ≡ Fault.NotSaved) }
@@ -292,17 +330,24 @@ impl<'a, H: Files<File = File> + AllocGlobal> Keep<'a, H> {
             return Ok(());
         }
         if self.journal.bytes() == 0 && !is_uploading(alloc, host) {
-            let _emptied = empty_swept(&self.rt, alloc, self.dir);
+            let _forgotten = host.forget_removed(alloc);
             return Ok(());
         }
         let draft = closed(self.rt, alloc, self.dir, self.name, host)?;
-        match put(self.rt, alloc, self.dir, Some(self.name), draft) {
+        match put(self.rt, alloc, self.dir, host, Some(self.name), draft) {
             Ok(_settled) => Ok(()),
             Err(fault) => Err(fault),
         }
     }
 
-    /// The same after a round of many connections: what was swept is looked for only if one of them ended.
+    // Whether a start would take long to repeat the journal: by its bytes, or by the objects that its requests
+    // visit.
+    fn is_long<S: LooseFiles>(&self, host: &Host<S>) -> bool {
+        self.journal.bytes() > self.saved.max(SPARE)
+            || self.journal.visits().saturating_mul(host.census()) > MOST_VISITED
+    }
+
+    /// The same after a round of many connections: what was swept counts only if one of them ended.
     pub fn settle_after<S: LooseFiles>(
         &mut self,
         alloc: Global,
@@ -312,31 +357,44 @@ impl<'a, H: Files<File = File> + AllocGlobal> Keep<'a, H> {
         ensures cause { IfErr result (λ fault. fault ≡ Fault.NotSaved) }
         ensures saved { IsSaved host.old host.new }
     {
-        if !ended && self.journal.bytes() <= self.saved.max(SPARE) {
-            return Ok(());
+        if !ended && !self.is_long(host) {
+            return sync_ahead(alloc, host);
         }
         self.settle(alloc, host)
     }
 
-    /// Saves the host's state, where the journal has grown longer than it and than a MiB, or where
-    /// anything was swept. Where it can not be drafted, as an upload's object can not be read, the
-    /// journal goes on behind the old state. After an `Err` nothing more is to be kept.
+    /// Saves the host's state if the journal is long, or if anything was swept. If it cannot be drafted, because
+    /// an upload's object cannot be read, or if there are no descriptors to sync object files, the journal goes on
+    /// after the old state. After an `Err` nothing more may
+    /// be kept.
     pub fn settle<S: LooseFiles>(&mut self, alloc: Global, host: &mut Host<S>) -> Result<(), Fault>
         ensures cause { IfErr result (λ fault. fault ≡ Fault.NotSaved) }
         ensures saved { IsSaved host.old host.new }
     {
-        let grown = self.journal.bytes() > self.saved.max(SPARE);
-        if !grown && !has_swept(&self.rt, alloc, self.dir) {
-            return Ok(());
+        if !self.is_long(host) && !host.has_removed() {
+            return sync_ahead(alloc, host);
         }
         if self.journal.bytes() == 0 {
-            let _emptied = empty_swept(&self.rt, alloc, self.dir);
+            let _forgotten = host.forget_removed(alloc);
             return Ok(());
+        }
+        match host.sync(alloc) {
+            Ok(()) => {}
+            Err(FileFault::Memory) => return Ok(()),
+            Err(FileFault::Device) => return Err(Fault::NotSaved),
         }
         let Ok(draft) = drafted(self.rt, alloc, self.dir, self.name, host) else {
             return Ok(());
         };
-        match Keep::over(self.rt, alloc, self.dir, Some(self.name), draft) {
+        match Keep::over(
+            self.rt,
+            alloc,
+            self.dir,
+            host,
+            Some(self.name),
+            draft,
+            self.syncs,
+        ) {
             Ok(keep) => {
                 *self = keep;
                 Ok(())

@@ -4,6 +4,7 @@
 //! How each command ends, and what it wrote till then, is said of `program`.
 #![tactic(auto)]
 
+mod accepting;
 mod asked;
 mod at_once;
 mod cause;
@@ -22,11 +23,13 @@ mod keeping;
 mod law;
 mod listening;
 mod patience;
+mod peer;
 mod replaying;
 mod rights;
 mod run;
 mod send;
 mod serve;
+mod stall;
 mod table;
 mod telling;
 mod tenants;

@@ -48,13 +48,14 @@ fn keep_session<'x, H: Files<File = File> + AllocGlobal, S: LooseFiles, R: Read,
     host: &mut Host<S>,
     reader: &mut R,
     writer: &mut W,
+    syncs: bool,
 ) -> Result<(), Fault>
     ensures ok { (hosting : Hosting) → IsKeptHostOf hosting host.old → OnOk result (IsSessionOf hosting (R.remaining reader.old)
         (W.contents writer.old) (W.contents writer.new) Clean) }
     ensures err { (hosting : Hosting) → IsKeptHostOf hosting host.old → IfErr result (IsUnserved hosting (R.remaining reader.old)
         (R.remaining reader.new) (W.contents writer.old) (W.contents writer.new)) }
 {
-    let mut keep = Keep::begin(rt, alloc, dir, host)?;
+    let mut keep = Keep::begin(rt, alloc, dir, host, syncs)?;
     let served = session(host, alloc, &mut keep.journal, reader, writer);
     let saved = keep.end(alloc, host, &served);
     match served {
@@ -95,8 +96,9 @@ fn run_in_folder<'x, H: Files<File = File> + AllocGlobal + RandomSource, R: Read
     ensures err { IfErr result (IsUnserved hosting.entry (R.remaining reader.old) (R.remaining reader.new)
         (W.contents writer.old) (W.contents writer.new)) }
 {
+    let syncs = hosting.syncs;
     let mut host = host_in_folder(rt, alloc, dir, hosting)?;
-    keep_session(rt, alloc, dir, &mut host, reader, writer)
+    keep_session(rt, alloc, dir, &mut host, reader, writer, syncs)
 }
 
 /// Serves one session of the host that has these tenants too. What was served is saved where a folder

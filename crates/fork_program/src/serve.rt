@@ -127,11 +127,12 @@ fn keep_connections<'x, H: Files<File = File> + Net + AllocGlobal + Clock, S: Lo
     socket: &str,
     connections: u32,
     at_once: Option<u32>,
+    syncs: bool,
 ) -> Result<(), Fault>
     ensures ok { (hosting : Hosting) → IsKeptHostOf hosting host.old → OnOk result (IsListened hosting at_once connections) }
     ensures err { (hosting : Hosting) → IsKeptHostOf hosting host.old → IfErr result (IsUnlistened hosting at_once connections) }
 {
-    let mut keep = Keep::begin(rt, alloc, dir, host)?;
+    let mut keep = Keep::begin(rt, alloc, dir, host, syncs)?;
     show(rt, alloc, socket)?;
     let served = serve_kept_at(
         rt,
@@ -159,6 +160,7 @@ fn serve_kept_host<'x, H: Files<File = File> + Net + AllocGlobal + Clock, S: Loo
     socket: &str,
     connections: u32,
     at_once: Option<u32>,
+    syncs: bool,
 ) -> Result<(), Fault>
     ensures ok { (hosting : Hosting) → IsKeptHostOf hosting host.old → OnOk result (IsListened hosting at_once connections) }
     ensures err { (hosting : Hosting) → IsKeptHostOf hosting host.old → IfErr result (IsUnlistened hosting at_once connections) }
@@ -173,6 +175,7 @@ fn serve_kept_host<'x, H: Files<File = File> + Net + AllocGlobal + Clock, S: Loo
         socket,
         connections,
         at_once,
+        syncs,
     )
 }
 
@@ -206,8 +209,18 @@ fn serve_in_folder<'x, H: Files<File = File> + Net + AllocGlobal + RandomSource 
     ensures ok { OnOk result (IsListened hosting.entry at_once connections) }
     ensures err { IfErr result (IsUnlistened hosting.entry at_once connections) }
 {
+    let syncs = hosting.syncs;
     let mut host = host_in_folder(rt, alloc, dir, hosting)?;
-    serve_kept_host(rt, alloc, dir, &mut host, socket, connections, at_once)
+    serve_kept_host(
+        rt,
+        alloc,
+        dir,
+        &mut host,
+        socket,
+        connections,
+        at_once,
+        syncs,
+    )
 }
 
 /// Serves so many connections to a socket, each a session of the host that has these tenants too: as many

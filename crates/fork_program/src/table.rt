@@ -1,4 +1,6 @@
-use crate::ends::{Incoming, Outgoing, ends_of};
+use crate::accepting::{is_full, is_passing};
+use crate::ends::ends_of;
+use crate::peer::{Peer, are_full, has_turn, is_idle, stays};
 use fork_connection::Party;
 use mio::net::{UnixListener, UnixStream};
 use mio::{Events, Interest, Poll, Token};
@@ -9,9 +11,6 @@ use std::net::Net;
 use std::os::unix::net;
 use std::time::{Clock, Duration, Instant};
 
-/// While more than so many bytes wait to go out in all, no frame is taken.
-pub const MOST_WAITING: usize = 67_108_864;
-
 // The listener's number: no connection has it.
 const LISTENER: Token = Token(usize::MAX);
 
@@ -21,13 +20,6 @@ const TICK: u64 = 500;
 
 // While there is something to do, so many rounds come before the system is asked anew.
 const ROUNDS: u32 = 8;
-
-// Errors of accept(2) of which nothing but time, or the end of a connection, is the cure, by errno(3):
-// ENOMEM, ENFILE, EMFILE, ENOBUFS.
-const FULL: [i32; 4] = [12, 23, 24, 105];
-
-/// A connection over a socket.
-pub type Peer = Party<Incoming, Outgoing>;
 
 /// The connections that are open, and the listener that others come from.
 #[derive(Drop)]
@@ -46,32 +38,8 @@ pub struct Table {
     is_calling: bool,
     // So many rounds since the system was asked.
     rounds: u32,
-}
-
-// Whether a turn may do something at one of them. One that may ask for more has none while too much waits.
-fn has_turn(peer: &Peer, is_full: bool) -> bool {
-    if !peer.is_busy() {
-        return false;
-    }
-    !is_full || peer.waiting() > 0
-}
-
-// Whether nothing is asked at one of them, as far as is known.
-fn is_idle(peer: &Peer) -> bool {
-    !peer.is_busy() && peer.writer().watch().idle_since().is_some()
-}
-
-// Notes how a round left it, and tells whether it stays. No time runs for a frame that is not taken as too
-// much waits.
-fn stays(peer: &Peer, now: Instant, is_full: bool) -> bool {
-    let end = peer.writer();
-    let is_awaited = peer.has_begun() && !(is_full && peer.is_busy());
-    end.note(now, peer.frames(), peer.waiting(), is_awaited);
-    if peer.is_over() || end.watch().is_over(now) {
-        end.end();
-        return false;
-    }
-    true
+    // When a round was over last.
+    tidied: Option<Instant>,
 }
 
 impl Table {
@@ -99,6 +67,7 @@ impl Table {
             next: 0,
             is_calling: true,
             rounds: 0,
+            tidied: None,
         })
     }
 
@@ -112,18 +81,9 @@ impl Table {
         self.left == 0 && self.peers.is_empty()
     }
 
-    // Whether too much waits to go out.
-    fn is_full(&self) -> bool {
-        let mut waiting: usize = 0;
-        for peer in self.peers.iter() {
-            waiting = waiting.saturating_add(peer.waiting());
-        }
-        waiting > MOST_WAITING
-    }
-
     // Whether the next round may do something.
     fn has_turns(&self) -> bool {
-        let is_full = self.is_full();
+        let is_full = are_full(self.peers.as_slice());
         self.peers.iter().any(|peer| has_turn(peer, is_full))
     }
 
@@ -259,9 +219,7 @@ impl Table {
                         self.is_calling = false;
                         return Ok(());
                     }
-                    if error.kind() == ErrorKind::ConnectionAborted
-                        || error.kind() == ErrorKind::Interrupted
-                    {
+                    if is_passing(&error) {
                         continue;
                     }
                     if is_full(&error) {
@@ -274,8 +232,24 @@ impl Table {
         Ok(())
     }
 
+    // No peer's time runs while the host does something else between two rounds, such as saving its state.
+    fn put_off(&mut self, now: Instant) {
+        let Some(tidied) = self.tidied else {
+            return;
+        };
+        let away = now.duration_since(tidied);
+        if away < Duration::from_millis(TICK) {
+            return;
+        }
+        for peer in self.peers.iter() {
+            peer.writer().put_off(away);
+        }
+    }
+
     /// Waits until something is to be done, and accepts the connections that wait.
     pub fn attend<H: Clock>(&mut self, rt: &H, alloc: Global) -> io::Result<()> {
+        let now = Instant::now(rt)?;
+        self.put_off(now);
         self.listen()?;
         if self.is_calling {
             let now = Instant::now(rt)?;
@@ -289,19 +263,9 @@ impl Table {
     pub fn tidy<H: Clock>(&mut self, rt: &H) -> io::Result<bool> {
         let now = Instant::now(rt)?;
         let before = self.peers.len();
-        let is_full = self.is_full();
+        let is_full = are_full(self.peers.as_slice());
         self.peers.retain(|peer| stays(peer, now, is_full));
+        self.tidied = Some(now);
         Ok(self.peers.len() < before)
-    }
-}
-
-// Whether accept(2) failed for want of what others may give back.
-fn is_full(error: &io::Error) -> bool {
-    if error.kind() == ErrorKind::OutOfMemory {
-        return true;
-    }
-    match error.raw_os_error() {
-        Some(errno) => FULL.contains(&errno),
-        None => false,
     }
 }

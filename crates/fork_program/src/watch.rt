@@ -96,6 +96,19 @@ impl Watch {
         }
     }
 
+    /// The peer has so much longer.
+    pub fn put_off(self, by: Duration) -> Watch {
+        let awaited = match self.awaited {
+            Awaited::Beginning(since) => Awaited::Beginning(since),
+            Awaited::Rest(end) => Awaited::Rest(end.checked_add(by).unwrap_or(end)),
+            Awaited::Taking(end) => Awaited::Taking(end.checked_add(by).unwrap_or(end)),
+        };
+        Watch {
+            awaited,
+            frames: self.frames,
+        }
+    }
+
     /// Whether the peer's time is over.
     pub fn is_over(&self, now: Instant) -> bool {
         match self.awaited {

@@ -53,7 +53,7 @@ dates_differ [] ascend = tt
 dates_differ (e ∷ es) ascend = (dates_apart e es ascend.0, dates_differ es ascend.1)
 
 -- the dates of a history in some order, sorted
-sorted_dates : (history : Notes) (found dates : List Dated) → IsPermutation (map noted_date (entries history)) found → IsPermutation found dates → IsSorted by_date dates → dates ≡ newest_first (map noted_date (entries history))
+pub sorted_dates : (history : Notes) (found dates : List Dated) → IsPermutation (map noted_date (entries history)) found → IsPermutation found dates → IsSorted by_date dates → dates ≡ newest_first (map noted_date (entries history))
 sorted_dates history found dates are moved sorted =
     let all = map noted_date (entries history) in
     sorted_is_put date_total date_exact all dates (dates_differ (entries history) (keys_ascend history)) (IsPermutation-trans all found dates are moved) sorted

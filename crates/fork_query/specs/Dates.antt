@@ -6,7 +6,8 @@ use Rattle.std.specs.declared.cmp.Reverse.{Reverse}
 use Rattle.std.specs.Ordering.{nat_cmp, ordering_then}
 use Rattle.git_name.specs.Name.{name_cmp}
 use Rattle.git_name.specs.Object.{Object}
-use Rattle.fork_reach.specs.History.{Note, seconds_in}
+use Rattle.fork_reach.specs.History.{Note, note_at, seconds_in}
+use Rattle.fork_reach.specs.Source.{Objects}
 use Rattle.fork_query.specs.declared.dated.Dated.{Dated}
 
 -- a time, of which the greater comes first
@@ -28,3 +29,7 @@ dated entry = record { seconds = reverse (seconds_in entry.1.kind entry.1.bytes)
 -- the same of what is noted about it
 abbrev pub noted_date : List ℕ × Note → Dated
 noted_date entry = record { seconds = reverse entry.1.seconds; name = entry.0 }
+
+-- the same of the object of a name
+abbrev pub date_at : Objects → List ℕ → Dated
+date_at objects name = noted_date (name, note_at objects name)

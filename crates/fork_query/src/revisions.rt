@@ -1,10 +1,13 @@
-ghost use Rattle.std.specs.Prelude.{◌≡◌, IsTrue, IfOk, map as mapped};
+ghost use Rattle.std.specs.Prelude.{◌≡◌, IsTrue, IfOk, IfSome, map as mapped};
+ghost use Rattle.std.specs.List.Sorted.{IsPermutation, IsSorted};
 ghost use Rattle.std.specs.FinMap as map;
 ghost use Rattle.git_name.specs.Text.{words_of};
 ghost use Rattle.git_name.specs.Count.{fault_in};
 ghost use Rattle.fork_reach.specs.Faults.{IsAsked};
-ghost use Rattle.fork_query.specs.Dates.{newest_first, noted_date};
+ghost use Rattle.fork_reach.specs.Reach.{parent_names};
+ghost use Rattle.fork_query.specs.Dates.{by_date, date_at, dated, newest_first, noted_date};
 ghost use Rattle.fork_query.specs.Objects.{name_lines};
+ghost use Rattle.fork_query.specs.Reached.{beyond};
 ghost use Rattle.fork_query.specs.RevList.{revision_list, revisions_told};
 ghost use Rattle.fork_query.specs.Told.{Tells, query_fault};
 
@@ -14,6 +17,7 @@ use crate::query_error::QueryError;
 use crate::sides::{Sides, select};
 use crate::want::Want;
 use fork_reach::{History, Source, SourceFault, ancestors, read_history};
+use git_name::Name;
 use git_reftx::Repository;
 use std::alloc::{AllocError, Global};
 use std::cmp::Reverse;
@@ -34,6 +38,61 @@ fn dates_of(alloc: Global, history: History) -> Result<Vec<Dated>, AllocError>
     Ok(dates)
 }
 
+// The dates of these commits, if the source knows all of them.
+fn dates_known<S: Source>(
+    alloc: Global,
+    source: &S,
+    names: &[Name],
+) -> Result<Option<Vec<Dated>>, AllocError>
+    ensures { IsTrue (S.state source.now).honest → IfOk result (λ all. IfSome all (λ dates. dates.items ≡ mapped (date_at (S.state source.now).objects) names.now)) }
+{
+    let mut dates = Vec::with_capacity(alloc, names.len())?;
+    for name in names {
+        let Some(seconds) = source.known_seconds(*name) else {
+            return Ok(None);
+        };
+        dates.push(Dated {
+            seconds: Reverse(seconds),
+            name: *name,
+        })?;
+    }
+    Ok(Some(dates))
+}
+
+// The newest first.
+fn sorted(dates: Vec<Dated>) -> Vec<Dated>
+    ensures moved { IsPermutation dates.items result.items }
+    ensures sorted { IsSorted by_date result.items }
+{
+    let mut dates = dates;
+    dates.sort_unstable();
+    dates
+}
+
+// The commits that are ancestors of the wanted ones and not of the excluded ones, if the source knows them, the
+// newest first. It reads nothing.
+fn known_dates<S: Source>(
+    alloc: Global,
+    source: &S,
+    sides: &Sides,
+) -> Result<Option<Vec<Dated>>, AllocError>
+    ensures { IsTrue (S.state source.now).honest → IfOk result (λ all. IfSome all (λ dates. dates.items ≡ newest_first (mapped dated (map.entries (beyond (parent_names (S.state source.now).objects) (S.state source.now).objects sides.now.wanted.items sides.now.excluded.items))))) }
+{
+    let Some(names) = source.known_history(
+        alloc,
+        sides.wanted.as_slice(),
+        sides.excluded.as_slice(),
+    )?
+    else {
+        return Ok(None);
+    };
+    let _count = names.len();
+    let Some(dates) = dates_known(alloc, source, names.as_slice())? else {
+        return Ok(None);
+    };
+    Ok(Some(sorted(dates)))
+}
+
 // Their names, one a line.
 fn lines_of(alloc: Global, dates: &[Dated]) -> Result<Vec<u8>, AllocError>
     ensures { IfOk result (λ text. text.items ≡ name_lines (mapped (λ date. date.name) dates.now)) }
@@ -45,9 +104,38 @@ fn lines_of(alloc: Global, dates: &[Dated]) -> Result<Vec<u8>, AllocError>
     Ok(text)
 }
 
+// The dates of the commits that are ancestors of the wanted ones and not of the excluded ones, from histories that are
+// read, the newest first. What the excluded ones reach is walked first, and the walk from the wanted ones stops there.
+fn read_dates<S: Source>(
+    alloc: Global,
+    source: &mut S,
+    sides: &Sides,
+) -> Result<Vec<Dated>, SourceFault>
+    ensures dates { IsTrue (S.state source.old).honest → IfOk result (λ dates. dates.items ≡ newest_first (mapped dated (map.entries (beyond (parent_names (S.state source.old).objects) (S.state source.old).objects sides.now.wanted.items sides.now.excluded.items)))) }
+    ensures asked { IsAsked (S.state source.old) (S.state source.new) (fault_in result) }
+{
+    let hidden = ancestors(alloc, source, sides.excluded.as_slice())?;
+    let history = read_history(alloc, source, sides.wanted.as_slice(), &hidden)?;
+    match dates_of(alloc, history) {
+        Ok(dates) => Ok(dates),
+        Err(_) => Err(SourceFault::Memory),
+    }
+}
+
+// The same, from what the source knows, or else from what is read.
+fn dates<S: Source>(alloc: Global, source: &mut S, sides: &Sides) -> Result<Vec<Dated>, SourceFault>
+    ensures dates { IsTrue (S.state source.old).honest → IfOk result (λ dates. dates.items ≡ newest_first (mapped dated (map.entries (beyond (parent_names (S.state source.old).objects) (S.state source.old).objects sides.now.wanted.items sides.now.excluded.items)))) }
+    ensures asked { IsAsked (S.state source.old) (S.state source.new) (fault_in result) }
+{
+    match known_dates(alloc, source, sides) {
+        Ok(Some(dates)) => Ok(dates),
+        Ok(None) => read_dates(alloc, source, sides),
+        Err(_) => Err(SourceFault::Memory),
+    }
+}
+
 #[tactic(auto, unfolding(crate::specs::RevList::revision_list))]
-// The commits that are ancestors of the wanted ones and not of the excluded ones. What the excluded ones
-// reach is walked first, and the walk from the wanted ones stops there.
+// Their names, one a line.
 fn revisions<S: Source>(
     alloc: Global,
     source: &mut S,
@@ -56,11 +144,7 @@ fn revisions<S: Source>(
     ensures listed { IsTrue (S.state source.old).honest → IfOk result (λ text. text.items ≡ name_lines (revision_list (S.state source.old).objects sides.now.wanted.items sides.now.excluded.items)) }
     ensures asked { IsAsked (S.state source.old) (S.state source.new) (fault_in result) }
 {
-    let hidden = ancestors(alloc, source, sides.excluded.as_slice())?;
-    let history = read_history(alloc, source, sides.wanted.as_slice(), &hidden)?;
-    let Ok(dates) = dates_of(alloc, history) else {
-        return Err(SourceFault::Memory);
-    };
+    let dates = dates(alloc, source, sides)?;
     match lines_of(alloc, dates.as_slice()) {
         Ok(text) => Ok(text),
         Err(_) => Err(SourceFault::Memory),
@@ -69,8 +153,9 @@ fn revisions<S: Source>(
 
 #[tactic(auto, unfolding(crate::specs::RevList::revisions_told))]
 /// The ancestors of the items' commits, one a line, except those of the items with `^`; by the
-/// committer's seconds, the newest first, and of one time by name. A commit is its own ancestor, and is
-/// read once. The items are words, separated by one SP each.
+/// committer's seconds, the newest first, and of one time by name. A commit is its own ancestor. If the source
+/// knows the histories, nothing is read; otherwise each commit is read once. The items are words, separated by one
+/// SP each.
 pub fn rev_list<S: Source>(
     alloc: Global,
     source: &mut S,

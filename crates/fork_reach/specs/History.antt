@@ -1,5 +1,5 @@
 -- The history of commits: of each commit its parents, and when it was committed (own).
-use Rattle.std.specs.Prelude.{ℕ, List, [], Option, None, Some}
+use Rattle.std.specs.Prelude.{ℕ, ◌+◌, List, [], Option, None, Some}
 use Rattle.std.specs.List.{zip}
 use Rattle.std.specs.FinMap.{FinMap, from_entries, get}
 use Rattle.git_name.specs.Name.{name_cmp}
@@ -22,6 +22,18 @@ seconds_in Blob bytes = 0
 seconds_in Tree bytes = 0
 seconds_in Commit bytes = seconds_or_zero (commit_in bytes)
 seconds_in Tag bytes = 0
+
+-- when a commit was made, so that 0 tells that there is none
+abbrev pub time_or_zero : Option CommitValue → ℕ
+time_or_zero None = 0
+time_or_zero (Some commit) = commit.committer.seconds + 1
+
+-- the same of the commit that bytes of a kind are
+abbrev pub time_in : Kind → List ℕ → ℕ
+time_in Blob bytes = 0
+time_in Tree bytes = 0
+time_in Commit bytes = time_or_zero (commit_in bytes)
+time_in Tag bytes = 0
 
 -- what a history keeps of an object
 pub record Note : Type 0 where

@@ -10,16 +10,16 @@ use git_name::{Kind, Name};
 use git_object::{Object, links};
 use std::alloc::{AllocError, Global};
 
-// What a walk goes along.
+// The links that a walk follows.
 #[derive(Clone, Copy)]
 pub(crate) enum Along {
     // Each link of each object.
     Links,
-    // The parents of commits alone.
+    // Only the parents of commits.
     Parents,
 }
 
-// Whether objects of the kind go on to others at all.
+// Whether objects of this kind can have links.
 fn goes_on(along: Along, kind: Kind) -> bool
     ensures { result ≡ not (rests along kind) }
 {
@@ -31,7 +31,7 @@ fn goes_on(along: Along, kind: Kind) -> bool
     }
 }
 
-// The same where it is said along what.
+// The same for the links that a walk follows.
 pub(crate) fn goes_on_in(along: Option<Along>, kind: Kind) -> bool
     ensures { result ≡ not (rests_in along kind) }
 {
@@ -41,7 +41,7 @@ pub(crate) fn goes_on_in(along: Option<Along>, kind: Kind) -> bool
     }
 }
 
-/// The names of the object's links, in their order; none if it is in no grammar of its kind.
+/// The names of the object's links, in their order. If its bytes do not fit the grammar of its kind, there are none.
 pub fn link_names(alloc: Global, kind: Kind, bytes: &[u8]) -> Result<Vec<Name>, AllocError>
     ensures { IfOk result (λ names. names.items ≡ map (λ link. link.name) (links_in kind bytes.now)) }
 {
@@ -55,7 +55,7 @@ pub fn link_names(alloc: Global, kind: Kind, bytes: &[u8]) -> Result<Vec<Name>, 
     Ok(names)
 }
 
-// The names that the object goes on to.
+// The names that a walk goes on to from the object.
 fn names_of(alloc: Global, along: Along, kind: Kind, bytes: &[u8]) -> Result<Vec<Name>, AllocError>
     ensures { IfOk result (λ names. names.items ≡ names_in along kind bytes.now) }
 {
@@ -65,7 +65,7 @@ fn names_of(alloc: Global, along: Along, kind: Kind, bytes: &[u8]) -> Result<Vec
     }
 }
 
-// The source comes to know the links of a lent object, if a walk goes along links.
+// Has the source learn the links of a borrowed object, if the walk follows all links.
 fn learn_along<S: Source>(alloc: Global, source: &mut S, along: Along, name: Name)
     ensures { IsAsked (S.state source.old) (S.state source.new) None }
 {
@@ -75,7 +75,7 @@ fn learn_along<S: Source>(alloc: Global, source: &mut S, along: Along, name: Nam
     }
 }
 
-// The names that the object of this name goes on to. It is lent, or read once.
+// The names that a walk goes on to from the object of this name. It is borrowed, or read once.
 pub(crate) fn next_names<S: Source>(
     alloc: Global,
     source: &mut S,

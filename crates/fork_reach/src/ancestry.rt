@@ -11,15 +11,14 @@ use crate::source::{Source, SourceFault};
 use git_name::Name;
 use std::alloc::Global;
 
-/// Tells the parents of commits without reading them. Each commit has a place, behind those of its
-/// parents. Over any store it tells names and parents of commits that the source finds, and of no others:
-/// of these it tells how many there are, and at which places the parents of others stand.
+/// Knows the parents of commits without reading them. Each commit has a place after those of its parents. Over any
+/// store it shows names and parents only of commits that the source finds. Of the others it shows how many there
+/// are, and at which places parents are.
 pub trait Ancestry: Source {
     /// The commits that have a place, with their parents.
     ghost commits: { Self → Commits };
 
-    /// Comes to know the parents of this commit, if it is found, and of those that they lead to, as far as
-    /// it can.
+    /// Learns the parents of this commit, if it is found, and of all its ancestors, as far as it can.
     fn learn(&mut self, alloc: Global, commit: Name) -> Result<(), SourceFault>
         ensures asked { IsAsked (Self.state self.old) (Self.state self.new) (fault_in result) }
         ensures hidden { contains_key (Self.state self.old).objects commit ≡ false → commits self.new ≡ commits self.old }
@@ -29,7 +28,7 @@ pub trait Ancestry: Source {
     fn commit_count(&self) -> usize
         ensures { result ≡ length (commits self.now) };
 
-    /// What holds between calls, for who is to go over the commits: nothing is done.
+    /// What holds between calls. It does nothing; proofs call it for its clauses.
     fn invariant(&self)
         ensures graph { IsGraph (commits self.now) }
         ensures parents { IsTrue (Self.state self.now).honest → AreParents (Self.state self.now).objects (commits self.now) };

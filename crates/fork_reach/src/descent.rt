@@ -1,4 +1,4 @@
-// The best common ancestors, by a graph whose commits are gone over from the later places to the earlier.
+// The best common ancestors, by a graph whose commits are visited from later places to earlier ones.
 ghost use Rattle.std.specs.Prelude.{◌≡◌, ◌<◌, ◌≤◌, ◌⊎◌, ◌&&◌, ◌||◌, [], ◌∷◌, not, true, false, List, ℕ, length, IsTrue, IfNone, IfOk, IfSome, OnOk};
 ghost use Rattle.std.specs.FinMap.{contains_key};
 ghost use Rattle.std.specs.HashSet.{contains};
@@ -26,7 +26,7 @@ fn last_of(places: &BTreeSet<usize>, at: usize) -> usize
     if *last > at { *last } else { at }
 }
 
-// The last of the places of both.
+// The last place of both.
 fn last_of_both(a: &BTreeSet<usize>, b: &BTreeSet<usize>) -> Option<usize>
     ensures among { IfSome result (λ at. (has a.now at ≡ true) ⊎ (has b.now at ≡ true)) }
     ensures most_of_a { IfSome result (λ at. (place : ℕ) → has a.now place ≡ true → place ≤ at) }
@@ -56,7 +56,7 @@ fn is_seen<S: Ancestry>(source: &S, place: usize) -> bool
     source.commit_at(place).is_some()
 }
 
-// Puts a place to the others, if its commit is seen.
+// Adds a place, if its commit is seen.
 fn put<S: Ancestry>(
     source: &S,
     place: usize,
@@ -72,7 +72,7 @@ fn put<S: Ancestry>(
     Ok(())
 }
 
-// The same of each of these.
+// The same for each of these.
 fn put_all<S: Ancestry>(
     source: &S,
     more: &[usize],
@@ -87,7 +87,7 @@ fn put_all<S: Ancestry>(
     Ok(())
 }
 
-// Lets a place wait no longer, and its parents wait if it gives.
+// Takes a place from those that wait, and has its parents wait if `gives`.
 fn settle<S: Ancestry>(
     source: &S,
     at: usize,
@@ -106,7 +106,7 @@ fn settle<S: Ancestry>(
     put_all(source, source.parent_places(at), places)
 }
 
-// Goes on from the last place that waits. Answers whether its commit is common and not outdone.
+// Goes on from the last place that waits. Returns whether its commit is a best common ancestor.
 fn go_on<S: Ancestry>(source: &S, at: usize, waiting: &mut Waiting) -> Result<bool, AllocError>
     requires inside { at < length (S.commits source.now) }
     requires seen { is_seen_at (S.commits source.now) (S.state source.now).objects at ≡ true }
@@ -123,7 +123,7 @@ fn go_on<S: Ancestry>(source: &S, at: usize, waiting: &mut Waiting) -> Result<bo
     Ok(!is_outdone && (from_a && from_b))
 }
 
-// Puts the name of the commit at a place to the others.
+// Adds the name of the commit at a place.
 fn note<S: Ancestry>(
     source: &S,
     at: usize,
@@ -185,9 +185,8 @@ fn bases<S: Ancestry>(
     Ok(best)
 }
 
-/// The names of those common ancestors of two commits that no other common one has as a parent; nothing
-/// where the parents of one of both are not known. It reads no object, and goes no further than where all
-/// that is left is common.
+/// The names of the common ancestors of two commits that are not a parent of another one; `None` if the parents of
+/// one of the two are not known. It reads no object, and stops where everything that is left is common.
 pub fn known_bases<S: Ancestry>(
     alloc: Global,
     source: &S,

@@ -15,8 +15,8 @@ use nearby::Nearby;
 use std::alloc::{AllocError, Global};
 use std::marker::Model;
 
-/// Commits in memory, each with its parents and its time: at the place of a name stands what is noted of
-/// its commit. Contracts see a map from names to notes.
+/// Commits in memory, each with its parents and its time, at the place of its name. Contracts see a map from names
+/// to notes.
 #[derive(Drop)]
 pub struct History {
     names: IndexSet<Name, Hashing>,
@@ -41,7 +41,7 @@ impl Model for History {
 }
 
 impl History {
-    // The commits of these names, each with what is noted of it at the same place.
+    // The commits of these names, each with its note at the same place.
     pub(crate) fn of(names: IndexSet<Name, Hashing>, notes: Vec<Noted>) -> History
         requires { length notes.items ≡ length names.keys }
         ensures { result ≡ notes_under names.keys notes.items }
@@ -53,7 +53,7 @@ impl History {
         }
     }
 
-    /// The names of the commits, in no special order, and what is noted of each, at the same place.
+    /// The names of the commits, in no particular order, and the note of each, at the same place.
     pub fn commits(&self) -> (&[Name], &[Noted])
         ensures entries { IsPermutation (map.entries self.now) (zip result.0.now result.1.now) }
         ensures each { length result.1.now ≡ length result.0.now }
@@ -61,9 +61,8 @@ impl History {
         (self.names.as_slice(), self.notes.as_slice())
     }
 
-    /// The names of those common ancestors of the two commits that no other common one has as a parent.
-    /// It reads no object. Of names it hashes those of its answer, and those that do not stand near the
-    /// one before.
+    /// The names of the common ancestors of the two commits that are not a parent of another one. It reads no object. It
+    /// hashes the names that it returns, and those that are not near the one before.
     pub fn best_common(
         &self,
         alloc: Global,

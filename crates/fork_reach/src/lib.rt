@@ -1,6 +1,6 @@
-//! Where objects are found by their names, and which of them are reached from some.
-//! Whatever answers as a `Source` answers as a finite map, and tells a kind without reading bytes; what
-//! is reached is all that links, or parents, lead to, and nothing else.
+//! Sources of objects by their names, and which objects are reached from some.
+//! A `Source` answers as a finite map does, and knows a kind without reading bytes. What is reached is all that
+//! links, or parents, lead to, and nothing else.
 #![tactic(auto)]
 
 mod along;
@@ -18,6 +18,7 @@ mod queuing;
 mod reaching;
 mod recording;
 mod source;
+mod time;
 mod usage;
 mod walk;
 
@@ -31,4 +32,5 @@ pub use crate::order::ascending;
 pub use crate::reaching::{ancestors, reach, reach_between};
 pub use crate::recording::read_history;
 pub use crate::source::{Source, SourceFault};
+pub use crate::time::time_of;
 pub use crate::usage::OBJECT_USE;

@@ -14,23 +14,23 @@ use indexmap::IndexSet;
 
 // Names to which a walk may go.
 pub(crate) trait Names {
-    // What stands under each.
+    // The objects.
     ghost Of: { Type 0 };
 
-    // The names, with what stands under them.
+    // The names of the objects.
     ghost names: { Self → map.FinMap name_cmp Of };
 
-    // Those from which nothing is gone on to.
+    // The names at which a walk ends.
     ghost ends: { Self → List ℕ → Bool };
 
-    // Whether a walk goes on from there, where it may go there.
+    // Whether a walk goes on from a name, if it may visit the name.
     fn leads(&self, name: Name) -> Option<bool>
         ensures there { is_some result ≡ map.contains_key (names self.now) name }
         ensures ends { IfSome result (λ leads. leads ≡ false → ends self.now name ≡ true) };
 }
 
-// The objects of a source, but for those of these names. Where it is said along what a walk goes, it
-// goes on from no kind that leads to nothing.
+// The objects of a source, except those of these names. If it is known which links a walk follows, the walk does not go
+// on from kinds that have none.
 #[derive(Drop)]
 pub(crate) struct Open<'a, S> {
     pub(crate) source: &'a S,
@@ -38,7 +38,7 @@ pub(crate) struct Open<'a, S> {
     pub(crate) along: Option<Along>,
 }
 
-// Whether the name is hidden. Where none is, no name is hashed.
+// Whether the name is hidden. If no name is, none is hashed.
 pub(crate) fn is_hidden(hidden: &IndexSet<Name, Hashing>, name: Name) -> bool
     ensures { result ≡ contains same_name hidden.now name }
 {

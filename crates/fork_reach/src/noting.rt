@@ -13,9 +13,8 @@ use git_name::{Hashing, Name};
 use indexmap::IndexSet;
 use std::alloc::AllocError;
 
-// Notes the name as seen, and as one that waits where a walk goes on from it, where it is there and was
-// not seen yet. It is noted first, and taken out again where it is hidden or not there: each look-up hashes
-// the name anew.
+// Marks the name as seen, if it is there and was not seen yet, and has it wait, if a walk goes on from it. It is added
+// first, and removed again if it is hidden or not there, since each look-up hashes the name again.
 fn note<N: Names>(
     there: &N,
     name: Name,
@@ -42,7 +41,7 @@ fn note<N: Names>(
     Ok(())
 }
 
-// The same of each of these names.
+// The same for each of these names.
 fn note_all<N: Names>(
     there: &N,
     names: &[Name],

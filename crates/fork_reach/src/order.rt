@@ -10,7 +10,7 @@ use git_name::{Hashing, Name};
 use indexmap::IndexSet;
 use std::alloc::{AllocError, Global};
 
-// The names of a set, in no order.
+// The names of a set, in no particular order.
 fn listed(alloc: Global, names: &IndexSet<Name, Hashing>) -> Result<Vec<Name>, AllocError>
     ensures names { IfOk result (λ list. list.items ≡ names.now.keys) }
     ensures distinct { IsDistinct same_name names.now.keys }

@@ -8,8 +8,8 @@ use git_name::Name;
 use std::alloc::{AllocError, Global};
 use std::slice;
 
-// The names of a commit's parents, in their order. Most commits have one, which stands here and takes no
-// memory of its own.
+// The names of a commit's parents, in their order. Most commits have one, which is kept here and needs no memory of its
+// own.
 #[derive(Debug, Drop)]
 pub(crate) enum Parents {
     Root,

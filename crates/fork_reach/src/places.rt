@@ -12,9 +12,8 @@ use indexmap::IndexSet;
 use nearby::Nearby;
 use std::alloc::{AllocError, Global};
 
-// The commits of a history at their places: at the place of a name stands what is noted of its commit.
-// What is found of them is kept as flags at these places, so that no name is hashed but where it does not
-// stand near the one before.
+// The commits of a history, each at the place of its name. What is found of them is kept as flags at these places, so a
+// name is hashed only if it is not near the one before.
 #[derive(Drop)]
 pub(crate) struct Places<'a> {
     pub(crate) names: &'a IndexSet<Name, Hashing>,
@@ -22,7 +21,7 @@ pub(crate) struct Places<'a> {
     pub(crate) notes: &'a [Noted],
 }
 
-// Keeps the flags that are set among the others too.
+// Keeps only the flags that are also set among the others.
 fn keep_among(marks: &mut [bool], others: &[bool])
     requires { length others.now ≡ length marks.old }
     ensures each { (at : ℕ) → slice_index_or marks.new at false ≡ (slice_index_or others.now at false && slice_index_or marks.old at false) }
@@ -33,7 +32,7 @@ fn keep_among(marks: &mut [bool], others: &[bool])
     }
 }
 
-// Takes out the flags that are set among the others.
+// Clears the flags that are set among the others.
 fn take_out(marks: &mut [bool], others: &[bool])
     requires { length others.now ≡ length marks.old }
     ensures each { (at : ℕ) → slice_index_or marks.new at false ≡ (not (slice_index_or others.now at false) && slice_index_or marks.old at false) }
@@ -45,7 +44,7 @@ fn take_out(marks: &mut [bool], others: &[bool])
 }
 
 impl<'a> Places<'a> {
-    // Sets the flag of the name, and lets its place wait, where it has one and its flag is not set yet.
+    // Sets the flag of the name, and has its place wait, if the name has a place and its flag is not set yet.
     fn mark(
         &self,
         name: Name,
@@ -66,7 +65,7 @@ impl<'a> Places<'a> {
         Ok(())
     }
 
-    // The same of each of these names.
+    // The same for each of these names.
     fn mark_all(
         &self,
         names: &[Name],
@@ -92,7 +91,7 @@ impl<'a> Places<'a> {
         }
     }
 
-    // The flags of those of the commits that parents lead to from this one, and of itself.
+    // The flags of this commit and of its ancestors.
     fn ancestors(&self, alloc: Global, commit: Name) -> Result<Vec<bool>, AllocError>
         requires { length self.now.notes.now ≡ length self.now.names.now.keys }
         ensures marked { IfOk result (λ marks. (name : List ℕ) → is_marked self.now.names.now.keys marks.items name ≡ is_ancestor_noted (notes_under self.now.names.now.keys self.now.notes.now) commit name) }
@@ -123,7 +122,7 @@ impl<'a> Places<'a> {
         Ok(common)
     }
 
-    // Sets the flag of the name, where it has a place.
+    // Sets the flag of the name, if it has a place.
     fn put(&self, name: Name, marks: &mut [bool])
         requires { length marks.old ≡ length self.now.names.now.keys }
         ensures marked { (other : List ℕ) → contains same_name self.now.names.now other ≡ true → is_marked self.now.names.now.keys marks.new other ≡ cond (same_name name other) true (is_marked self.now.names.now.keys marks.old other) }
@@ -134,7 +133,7 @@ impl<'a> Places<'a> {
         }
     }
 
-    // Sets the flags of the parents of the commit at a place, but for itself.
+    // Sets the flags of the parents of the commit at a place, except its own.
     fn put_parents(&self, at: usize, marks: &mut [bool])
         requires place { at < length self.now.names.now.keys }
         requires notes { length self.now.notes.now ≡ length self.now.names.now.keys }
@@ -151,7 +150,7 @@ impl<'a> Places<'a> {
         }
     }
 
-    // The flags of those that one of the flagged commits, other than themselves, has as a parent.
+    // The flags of the commits that are a parent of another flagged commit.
     fn outdone(&self, alloc: Global, marks: &[bool]) -> Result<Vec<bool>, AllocError>
         requires notes { length self.now.notes.now ≡ length self.now.names.now.keys }
         requires len { length marks.now ≡ length self.now.names.now.keys }
@@ -187,8 +186,8 @@ impl<'a> Places<'a> {
         Ok(names)
     }
 
-    // The common ancestors of both that no other one has as a parent. As the parents of common ancestors
-    // are common, these are the best ones.
+    // The common ancestors of both that are not a parent of another one. Since the parents of common ancestors are
+    // common, these are the best ones.
     pub(crate) fn best_common(
         &self,
         alloc: Global,

@@ -11,8 +11,8 @@ use git_name::{Hashing, Name};
 use indexmap::IndexSet;
 use std::alloc::AllocError;
 
-// Puts the name behind the others, where it is there and does not stand among them yet. It is put there
-// first, and taken out again where it is hidden or not there: each look-up hashes the name anew.
+// Appends the name to the queue, if it is there and not in the queue yet. It is added first, and removed again if it is
+// hidden or not there, since each look-up hashes the name again.
 fn queue<N: Names>(
     there: &N,
     name: Name,
@@ -34,7 +34,7 @@ fn queue<N: Names>(
     Ok(())
 }
 
-// The same of each of these names.
+// The same for each of these names.
 fn queue_all<N: Names>(
     there: &N,
     more: &[Name],

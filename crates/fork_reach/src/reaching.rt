@@ -14,7 +14,7 @@ use git_name::{Hashing, Name};
 use indexmap::IndexSet;
 use std::alloc::Global;
 
-// The names that links lead to from these roots, past none; nothing is asked where there are no roots.
+// The names that these roots reach. If there are no roots, nothing is asked.
 fn walk_all<S: Source>(
     alloc: Global,
     source: &mut S,
@@ -31,8 +31,8 @@ fn walk_all<S: Source>(
     walk(alloc, source, Along::Links, roots, &none)
 }
 
-// The same, along links that the source knows; nothing if it does not know all. What the excluded names lead to is
-// kept for the next time.
+// The same by links that the source knows; `None` if it does not know all. What the excluded names reach is kept for the
+// next time.
 fn known_between<S: Source>(
     alloc: Global,
     source: &mut S,
@@ -51,8 +51,8 @@ fn known_between<S: Source>(
     }
 }
 
-// What links lead to from the wanted names, and from none of the excluded ones. What the excluded ones reach is
-// walked first, and the walk from the wanted ones stops there.
+// What the wanted names reach and the excluded ones do not. The excluded ones are walked first, and the walk from the
+// wanted ones stops there.
 fn walk_between<S: Source>(
     alloc: Global,
     source: &mut S,
@@ -68,10 +68,9 @@ fn walk_between<S: Source>(
     walk(alloc, source, Along::Links, wanted, &hidden)
 }
 
-/// The names of the source's objects that links lead to from the wanted names, and from none of the excluded
-/// ones, with those of the wanted ones that it finds. Names that it does not find are passed over. If the source
-/// knows all links on the way, nothing is read. Otherwise each tree, commit and tag is lent or read once, a blob
-/// never.
+/// The names of the source's objects that the wanted names reach and the excluded ones do not, with the wanted ones
+/// that it finds. Names that it does not find are ignored. If the source knows all links on the way, nothing is
+/// read. Otherwise each tree, commit and tag is borrowed or read once, and a blob never.
 pub fn reach_between<S: Source>(
     alloc: Global,
     source: &mut S,
@@ -90,9 +89,9 @@ pub fn reach_between<S: Source>(
     walk_between(alloc, source, wanted, excluded)
 }
 
-/// The names of the source's objects that links lead to from these roots, and of the roots that it
-/// finds. Roots that it does not find are passed over. If the source knows all links on the way, nothing is read.
-/// Otherwise each tree, commit and tag is lent or read once, a blob never.
+/// The names of the source's objects that these roots reach, with the roots that it finds. Roots that it does not find
+/// are ignored. If the source knows all links on the way, nothing is read. Otherwise each tree, commit and tag is
+/// borrowed or read once, and a blob never.
 pub fn reach<S: Source>(
     alloc: Global,
     source: &mut S,
@@ -107,8 +106,8 @@ pub fn reach<S: Source>(
     reach_between(alloc, source, roots, &[])
 }
 
-/// The names of the source's objects that parents of commits lead to from these, and of those of these
-/// that it finds. The others are passed over. Each commit is read once, and nothing else.
+/// The names of the source's commits that are ancestors of these, with those of these that it finds. The others are
+/// ignored. Each commit is read once, and nothing else.
 pub fn ancestors<S: Source>(
     alloc: Global,
     source: &mut S,

@@ -19,7 +19,7 @@ use git_name::{Hashing, Kind, Name};
 use indexmap::IndexSet;
 use std::alloc::Global;
 
-// Whether the object of this name is a commit. It reads no bytes of it.
+// Whether the object of this name is a commit. It does not read its bytes.
 fn is_commit<S: Source>(source: &S, name: Name) -> bool
     ensures { OnFalse result (kind_in (S.state source.now).objects name ≢ Some Kind.Commit) }
 {
@@ -29,8 +29,7 @@ fn is_commit<S: Source>(source: &S, name: Name) -> bool
     }
 }
 
-// What is noted of the object of this name. It is lent, or read at the most once, and not at all where it is
-// no commit.
+// The note of the object of this name. It is borrowed, or read at most once, and not read if it is not a commit.
 fn noted<S: Source>(alloc: Global, source: &mut S, name: Name) -> Result<Noted, SourceFault>
     ensures noted { IsTrue (S.state source.old).honest → IfOk result (λ noted. noted ≡ note_at (S.state source.old).objects name) }
     ensures asked { IsAsked (S.state source.old) (S.state source.new) (fault_in result) }
@@ -50,9 +49,9 @@ fn noted<S: Source>(alloc: Global, source: &mut S, name: Name) -> Result<Noted, 
     }
 }
 
-/// The commits that parents lead to from these, past none of the hidden names, and those of these that
-/// the source finds. Each is read once, its time taken with its parents. They are read in the order in
-/// which they are found, so that the names of the history are themselves the queue of those to read.
+/// The ancestors of these commits, with those of these that the source finds, not going through hidden names. Each is
+/// read once, for its parents and its time. They are read in the order in which they are found, so the names of the
+/// history are themselves the queue of what to read.
 pub fn read_history<S: Source>(
     alloc: Global,
     source: &mut S,

@@ -6,7 +6,8 @@ ghost use Rattle.git_name.specs.Object.{object_name};
 ghost use Rattle.git_name.specs.Same.{same_name};
 ghost use Rattle.git_name.specs.Count.{fault_in};
 ghost use Rattle.fork_reach.specs.Faults.{IsAsked};
-ghost use Rattle.fork_reach.specs.Reach.{is_between, linked_names};
+ghost use Rattle.fork_reach.specs.History.{note_at};
+ghost use Rattle.fork_reach.specs.Reach.{is_between, linked_names, parent_names};
 ghost use Rattle.fork_reach.specs.Source.{SourceState, kind_in};
 
 use git_name::{Hashing, Kind, Name, Sealed};
@@ -27,27 +28,26 @@ pub enum SourceFault {
 
 /// Finds objects by their names, as a finite map does.
 pub trait Source {
-    /// What it stands on that stays over any store.
+    /// What every call leaves as it is, over any store.
     ghost Base: { Type 0 };
 
-    /// What it stands on that stays over an honest store.
+    /// What every call leaves as it is, over an honest store.
     ghost Rest: { Type 0 };
 
-    /// What it shows. Over a store that does not give what it was given, the names, kinds and lengths
-    /// of its objects stay the same, and no bytes are given under a false name.
+    /// What it shows. Over a store that does not return what was written to it, the names, kinds and lengths of its
+    /// objects stay the same, and no bytes are returned under a false name.
     ghost state: { Self → SourceState Base Rest };
 
-    /// How whoever walks along its names is to hash them.
+    /// How to hash its names in a walk.
     fn hashing(&self) -> Hashing {
         Hashing::default()
     }
 
-    /// The kind of the object of this name. It reads no bytes of it.
+    /// The kind of the object of this name. It does not read its bytes.
     fn kind_of(&self, name: Name) -> Option<Kind>
         ensures { result ≡ kind_in (state self.now).objects name };
 
-    /// The object of this name, its kind and its bytes, lent where it lies. What is not lent has to be
-    /// read.
+    /// The kind and the bytes of the object of this name, borrowed; `None` if it has to be read.
     fn lend(&self, name: Name) -> Option<(Kind, &[u8])>
         ensures found { IfSome result (λ lent. IsTrue (state self.now).honest × (map.get (state self.now).objects name ≡ Some (record { kind = lent.0; bytes = lent.1.now }))) }
         ensures named { IfSome result (λ lent. object_name (record { kind = lent.0; bytes = lent.1.now }) ≡ name) }
@@ -56,15 +56,15 @@ pub trait Source {
         None
     }
 
-    /// The object of this name, read whole.
+    /// Reads the object of this name.
     fn read(&mut self, alloc: Global, name: Name) -> Result<Option<Sealed>, SourceFault>
         ensures found { IsTrue (state self.old).honest → IfOk result (λ found. found ≡ map.get (state self.old).objects name) }
         ensures there { IfOk result (λ found. is_some found ≡ map.contains_key (state self.old).objects name) }
         ensures named { IfOk result (λ found. IfSome found (λ object. object_name object ≡ name)) }
         ensures asked { IsAsked (state self.old) (state self.new) (fault_in result) };
 
-    /// The names of its objects that links lead to from the wanted ones, and from none of the excluded ones;
-    /// nothing if it does not know the links of all that is on the way. It reads nothing.
+    /// The names of its objects that the wanted ones reach and the excluded ones do not; `None` if it does not know all
+    /// links on the way. It reads nothing.
     fn known_between(
         &self,
         alloc: Global,
@@ -82,7 +82,37 @@ pub trait Source {
         Ok(None)
     }
 
-    /// Comes to know the links of the object of this name, if it is lent. It reads nothing, and what the source
+    /// The names of its objects that parents of commits lead to from the wanted ones, and from none of the excluded
+    /// ones; nothing if it does not know the parents of all that is on the way. It reads nothing.
+    fn known_history(
+        &self,
+        alloc: Global,
+        wanted: &[Name],
+        excluded: &[Name],
+    ) -> Result<Option<IndexSet<Name, Hashing>>, AllocError>
+        ensures found { IsTrue (state self.now).honest → IfOk result (λ known. IfSome known (λ found. (name : List ℕ) → contains same_name found name ≡ is_between (parent_names (state self.now).objects) (state self.now).objects wanted.now excluded.now name)) }
+        // Over any store.
+        ensures there { IfOk result (λ known. IfSome known (λ found. (name : List ℕ) → contains same_name found name ≡ true → map.contains_key (state self.now).objects name ≡ true)) }
+    {
+        let _alloc = alloc;
+        let _wanted = wanted;
+        let _excluded = excluded;
+        let nothing = None;
+        Ok(nothing)
+    }
+
+    /// The committer's seconds since 1970 of the commit of this name, and 0 of another object, if it knows them. It
+    /// reads nothing.
+    fn known_seconds(&self, name: Name) -> Option<u64>
+        ensures told { IsTrue (state self.now).honest → IfSome result (λ seconds. seconds ≡ (note_at (state self.now).objects name).seconds) }
+        // Over any store.
+        ensures there { IfSome result (λ seconds. map.contains_key (state self.now).objects name ≡ true) }
+    {
+        let _name = name;
+        None
+    }
+
+    /// Learns the links of the object of this name, if its bytes can be borrowed. It reads nothing, and what the source
     /// shows stays.
     fn learn_links(&mut self, alloc: Global, name: Name)
         ensures asked { IsAsked (state self.old) (state self.new) None }
@@ -91,8 +121,8 @@ pub trait Source {
         let _name = name;
     }
 
-    /// Keeps what links lead to from these names, if it knows that, so that it need not find it again. It reads
-    /// nothing, and what the source shows stays.
+    /// Keeps the sets of all that these names reach, if it knows the links, so that it need not find them again. It
+    /// reads nothing, and what the source shows stays.
     fn keep_reached(&mut self, alloc: Global, names: &[Name])
         ensures asked { IsAsked (state self.old) (state self.new) None }
     {

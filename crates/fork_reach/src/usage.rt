@@ -1,2 +1,2 @@
-/// The bytes of use of an object beside those of its content (own).
+/// The use of an object, in bytes, beside its content (own).
 pub const OBJECT_USE: u64 = 64;

@@ -1,7 +1,7 @@
 -- Acts at many connections, and what answers them, as one session of the host.
-use Rattle.std.proofs.Common.{◌≡◌, ◌<◌, Bool, ℕ, zero, suc, get_or, None, List, [], ◌∷◌, ◌++◌, Option, Result, Ok, Err, refl, sym, ap, ◌∙◌, subst, append_assoc, length, arith}
-use Rattle.std.specs.Io.KnownBytes.{Appends}
-use Rattle.std.proofs.KnownBytes.{Appends-nil, Appends-trans}
+use Rattle.std.proofs.Common.{◌≡◌, ◌<◌, Bool, ℕ, zero, suc, get_or, None, List, [], ◌∷◌, ◌++◌, ◌⊎◌, Option, Result, Ok, Err, inl, inr, refl, sym, ap, ◌∙◌, subst, append_assoc, length, arith}
+use Rattle.std.specs.Io.KnownBytes.{Appends, Keeps}
+use Rattle.std.proofs.KnownBytes.{Appends-kept, Appends-nil, Appends-trans}
 use Rattle.std.proofs.lemmas.List.{map-append}
 use Rattle.fork_request.specs.declared.reply.Reply.{Reply}
 use Rattle.fork_host.specs.Shown.{HostState}
@@ -13,8 +13,9 @@ use Rattle.fork_connection.specs.Rounds.{AreTurns, Stands}
 use Rattle.fork_connection.specs.Turns.{Act, Answered, Answers, Chain, Loses, Peer, Reads, Refuses, Runs, Step, Writes, acts_of, asked}
 use Rattle.fork_connection.proofs.RoundLemmas.{acts_of-append, runs_append}
 use Rattle.fork_connection.proofs.TurnLemmas as turn
-use Rattle.fork_wire.specs.AtOnce.{EachIsHeardAtOnce, IsCutOff, IsRound, IsServedAtOnce, RoundsAreOne, frames_in, replied, replies_in}
+use Rattle.fork_wire.specs.AtOnce.{EachIsHeardAtOnce, EndsRound, IsCutOff, IsRound, IsServedAtOnce, IsUnsynced, RoundsAreOne, frames_in, replied, replies_in}
 use Rattle.fork_wire.specs.Kept.{kept_bytes, kept_one}
+use Rattle.fork_wire.specs.declared.journal.NotKept.{NotKept}
 use Rattle.fork_wire.specs.Sessions.{IsAnswered, event_of, events_of}
 use Rattle.fork_wire.proofs.Going.{answered_so_far, run_on}
 use Rattle.fork_wire.proofs.KeptLemmas.{kept_first}
@@ -27,6 +28,14 @@ module _ {H : Type 0} (answered : Answered H) where
   chain_leaves f leaves old new (Reads bytes ∷ acts) chain = chain_leaves f leaves old new acts chain
   chain_leaves f leaves old new (Writes bytes ∷ acts) chain = chain_leaves f leaves old new acts chain
   chain_leaves f leaves old new (Refuses ∷ acts) chain = chain_leaves f leaves old new acts chain
+
+  -- what each answer carries over is carried over
+  pub chain_carries : (Q : H → Type 0) → ((old : H) (frame : Frame) (reply : Reply) (new : H) → answered old frame reply new → Q old → Q new) → (old new : H) (acts : List Act) → Chain answered old acts new → Q old → Q new
+  chain_carries Q carries old new [] same at_first = subst Q same at_first
+  chain_carries Q carries old new (Answers frame reply ∷ acts) (next, is, more) at_first = chain_carries Q carries next new acts more (carries old frame reply next is at_first)
+  chain_carries Q carries old new (Reads bytes ∷ acts) chain at_first = chain_carries Q carries old new acts chain at_first
+  chain_carries Q carries old new (Writes bytes ∷ acts) chain at_first = chain_carries Q carries old new acts chain at_first
+  chain_carries Q carries old new (Refuses ∷ acts) chain at_first = chain_carries Q carries old new acts chain at_first
 
   -- the host ran
   pub chain_ran : (host : H → HostState) → ((old : H) (frame : Frame) (reply : Reply) (new : H) → answered old frame reply new → IsStep (host old) (event_of frame) reply (host new)) → (old new : H) (acts : List Act) → Chain answered old acts new
@@ -128,13 +137,15 @@ module _ {H P : Type 0} (answered : Answered H) (lost : Loses H) (peer : P → P
   -- a round
   pub round_served : (old new : H) (before after : List P) → AreTurns answered lost peer is_over old new before after (Ok tt) → (first : ℕ → Peer) → Stands peer is_over first before
       → IsRound peer is_over (host old) (host new) (kept old) (kept new) first after
+  unfolding served_by
   round_served old new before after turns first stands =
       let reached = turns first stands in
-      record { last = reached.next; stands = reached.stands; served = served_by old new first reached.next reached.steps reached.runs reached.leads }
+      record { last = reached.next; stands = reached.stands; served = served_by old new first reached.next reached.steps reached.runs reached.leads; late = reached.late }
 
   -- one that was cut off
   pub round_cut : (old new : H) (before after : List P) (why : Lost) → AreTurns answered lost peer is_over old new before after (Err why) → (first : ℕ → Peer) → Stands peer is_over first before
       → IsCutOff (host old) (host new) (kept old) first
+  unfolding served_by
   round_cut old new before after why turns first stands =
       let reached = turns first stands in
       let loss = loses reached.leads.mid reached.leads.frame new reached.leads.is in
@@ -143,6 +154,7 @@ module _ {H P : Type 0} (answered : Answered H) (lost : Loses H) (peer : P → P
         kept = kept reached.leads.mid;
         last = reached.next;
         served = served_by old reached.leads.mid first reached.next reached.steps reached.runs reached.leads.chain;
+        late = reached.late;
         frame = reached.leads.frame;
         right = reached.leads.right;
         reply = loss.0;
@@ -167,6 +179,36 @@ module _ {H P : Type 0} (answered : Answered H) (lost : Loses H) (peer : P → P
         answered_so_far (host old) (host new) (frames ++ cut.frame ∷ []) (replies ++ cut.reply ∷ []) (run_on (host old) cut.mid (host new) frames replies cut.frame cut.reply cut.served.answered.ran cut.step),
       )
 
+pub cut_off : (old new : HostState) (before : Option (List ℕ)) (first : ℕ → Peer) → IsCutOff old new before first → IsCutOff old new before first ⊎ IsUnsynced old new before first
+cut_off old new before first cut = inl cut
+
+module _ {P : Type 0} where
+  -- turns of all, and then a sync
+  pub ended_by : (peer : P → Peer) (is_over : P → Bool) (old mid new : HostState) (before then after : Option (List ℕ)) (first : ℕ → Peer) (parties : List P) (result : Result (Unit {0}) NotKept) → new ≡ mid → Keeps then after
+      → IsRound peer is_over old mid before then first parties → EndsRound peer is_over old new before after first parties result
+  ended_by peer is_over old mid new before then after first parties (Ok done) same kept round = record {
+    last = round.last;
+    stands = round.stands;
+    served = record {
+      steps = round.served.steps;
+      runs = round.served.runs;
+      answered = subst (λ (h : HostState). IsAnswered old h (frames_in round.served.steps) (replies_in round.served.steps)) (sym same) round.served.answered;
+      kept = Appends-kept before then after (kept_bytes (frames_in round.served.steps) (replies_in round.served.steps)) round.served.kept kept;
+    };
+    late = round.late;
+  }
+  ended_by peer is_over old mid new before then after first parties (Err lost) same kept round = inr (record {
+    kept = then;
+    last = round.last;
+    served = record {
+      steps = round.served.steps;
+      runs = round.served.runs;
+      answered = subst (λ (h : HostState). IsAnswered old h (frames_in round.served.steps) (replies_in round.served.steps)) (sym same) round.served.answered;
+      kept = round.served.kept;
+    };
+    late = round.late;
+  })
+
 module _ {H P : Type 0} (answered : Answered H) (lost : Loses H) (peer : P → Peer) (is_over : P → Bool) where
   -- what each answer leaves is left by a round
   pub round_leaves : {A : Type 0} (f : H → A) → ((old : H) (frame : Frame) (reply : Reply) (new : H) → answered old frame reply new → f new ≡ f old) → (old new : H) (before after : List P)
@@ -175,6 +217,14 @@ module _ {H P : Type 0} (answered : Answered H) (lost : Loses H) (peer : P → P
       let table = some_table peer is_over before in
       let reached = turns table.0 table.1 in
       chain_leaves answered f leaves old new (acts_of reached.steps) reached.leads
+
+  -- what each answer carries over is carried over by a round
+  pub round_carries : (Q : H → Type 0) → ((old : H) (frame : Frame) (reply : Reply) (new : H) → answered old frame reply new → Q old → Q new) → (old new : H) (before after : List P)
+      → AreTurns answered lost peer is_over old new before after (Ok tt) → Q old → Q new
+  round_carries Q carries old new before after turns =
+      let table = some_table peer is_over before in
+      let reached = turns table.0 table.1 in
+      chain_carries answered Q carries old new (acts_of reached.steps) reached.leads
 
   -- and by one that was cut off, if a loss leaves it too
   pub cut_leaves : {A : Type 0} (f : H → A) → ((old : H) (frame : Frame) (reply : Reply) (new : H) → answered old frame reply new → f new ≡ f old) → ((old : H) (frame : Frame) (new : H) → lost old frame new → f new ≡ f old)

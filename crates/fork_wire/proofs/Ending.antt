@@ -144,3 +144,12 @@ stopped_alone old new input before after first now (Err fault) both = both.0
 pub stopped_kept : (old new : HostState) (input before after first now : Option (List ℕ)) (r : Result Ended SessionFault) → IfErr r (Stopped old new input before after first now) → IfErr r (λ fault. fault ≢ Journal → Stopped old new input before after first now fault)
 stopped_kept old new input before after first now (Ok ended) both = tt
 stopped_kept old new input before after first now (Err fault) both = λ other. both
+
+-- what holds however a session ends
+pub at_end : (P : Type 0) (r : Result Ended SessionFault) → P → IfOk r (λ ended. P)
+at_end P (Ok ended) held = held
+at_end P (Err fault) held = tt
+
+pub at_fault : (P : Type 0) (r : Result Ended SessionFault) → P → IfErr r (λ fault. fault ≢ Journal → P)
+at_fault P (Ok ended) held = tt
+at_fault P (Err fault) held = λ other. held

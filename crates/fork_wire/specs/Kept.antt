@@ -1,5 +1,6 @@
 -- What a journal keeps of a session (own): the frames that may have changed the host.
-use Rattle.std.specs.Prelude.{◌≡◌, Result, Ok, Err, Bool, true, false, not, cond, ℕ, List, [], ◌∷◌, flat_map}
+use Rattle.std.specs.Prelude.{◌≡◌, Option, Result, Ok, Err, Bool, true, false, not, cond, ℕ, List, [], ◌∷◌, flat_map}
+use Rattle.std.specs.Io.KnownBytes.{Keeps}
 use Rattle.fork_request.specs.Asked.{Ask, Inits, Drops, Forks, Pushes, SendsPart, EndsParts, DropsParts, Updates, SetsHead, MakesOffer, Withdraws, ForksOffer, AsksObject, AsksTree, AsksRevisions, AsksBases, AsksReferences, AsksHead, AsksOffers, AsksRepositories, Fetches, AsksUse, Prunes, NoRequest, asked}
 use Rattle.fork_request.specs.declared.reply.Reply.{Reply}
 use Rattle.fork_request.specs.declared.reply.Reply.TheVariants.{Done, Refused, Failed}
@@ -76,10 +77,14 @@ replies_kept (frame ∷ frames) (reply ∷ replies) = cond (is_kept frame reply)
 abbrev pub kept_bytes : List Frame → List Reply → List ℕ
 kept_bytes frames replies = flat_map frame_bytes (kept_of frames replies)
 
--- what a session's end says about its journal: that a frame could not be kept, or that it is as complete as it was
+-- what a session's end says about its journal: that a frame could not be kept or synced, or that it is as complete as it was
 abbrev pub TellsCut : {A : Type 0} → Bool → Bool → Result A SessionFault → Type 0
 TellsCut before now (Ok ended) = now ≡ before
 TellsCut before now (Err Read) = now ≡ before
 TellsCut before now (Err Write) = now ≡ before
 TellsCut before now (Err Memory) = now ≡ before
 TellsCut before now (Err Journal) = now ≡ true
+
+-- all that was kept is synced, as far as both are known, if this is true
+abbrev pub SyncedIf : Bool → Option (List ℕ) → Option (List ℕ) → Type 0
+SyncedIf is synced kept = is ≡ true → Keeps synced kept

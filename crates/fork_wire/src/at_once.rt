@@ -1,13 +1,15 @@
 ghost use Rattle.std.specs.Prelude.{◌≡◌, ℕ, List, IfErr, OnErr, OnOk, true, length};
+ghost use Rattle.std.specs.Io.KnownBytes.{Keeps};
 ghost use Rattle.fork_connection.specs.Rounds.{Stands, has_ended, peer_in};
 ghost use Rattle.fork_connection.specs.Turns.{Peer};
 ghost use Rattle.fork_request.specs.declared.reply.Reply.{Reply as Told};
 ghost use Rattle.fork_frame.specs.declared.frame.Frame.{Frame as Asked};
-ghost use Rattle.fork_wire.specs.AtOnce.{EndsRound};
+ghost use Rattle.fork_wire.specs.AtOnce.{EndsRound, IsCutOff, IsRound};
+ghost use Rattle.fork_wire.specs.Kept.{SyncedIf};
 ghost use Rattle.fork_wire.specs.Sessions.{IsAnswered};
 
 use crate::journal::{Journal, NotKept};
-use crate::keeping::keep;
+use crate::journaling::may_change;
 use crate::session::answer;
 use fork_connection::{Answering, Lost, Party, round};
 use fork_frame::Frame;
@@ -22,6 +24,8 @@ use std::io::{Read, Write};
 struct Keeping<'a, S: LooseFiles, J> {
     host: &'a mut Host<S>,
     journal: &'a mut J,
+    // Nothing was kept since it was last synced.
+    is_synced: bool,
 }
 
 impl<S: LooseFiles, J: Journal> Answering for Keeping<'_, S, J> {
@@ -29,12 +33,13 @@ impl<S: LooseFiles, J: Journal> Answering for Keeping<'_, S, J> {
     ghost use Rattle.std.specs.Io.KnownBytes.{Appends};
     ghost use Rattle.fork_request.specs.declared.reply.Reply.{Reply as Told};
     ghost use Rattle.fork_host.specs.Step.{IsStep};
-    ghost use Rattle.fork_wire.specs.Kept.{kept_one};
+    ghost use Rattle.fork_wire.specs.Kept.{SyncedIf, kept_one};
     ghost use Rattle.fork_wire.specs.Sessions.{event_of};
 
     ghost answered = { λ old frame reply new. IsStep old.host.now (event_of frame) reply new.host.now
         × Appends (J.kept old.journal.now) (J.kept new.journal.now) (kept_one frame reply)
         × (J.is_cut new.journal.now ≡ J.is_cut old.journal.now)
+        × (SyncedIf old.is_synced (J.synced old.journal.now) (J.kept old.journal.now) → SyncedIf new.is_synced (J.synced new.journal.now) (J.kept new.journal.now))
         × (new.host.ghost_name ≡ old.host.ghost_name) × (new.journal.ghost_name ≡ old.journal.ghost_name) };
 
     ghost lost = { λ old frame new. (reply : Told) × IsStep old.host.now (event_of frame) reply new.host.now
@@ -43,17 +48,23 @@ impl<S: LooseFiles, J: Journal> Answering for Keeping<'_, S, J> {
 
     fn answer(&mut self, alloc: Global, frame: &Frame) -> Result<Reply, Lost> {
         let reply = answer(self.host, alloc, frame);
-        if !keep(self.journal, frame, &reply) {
-            return Err(Lost);
+        if !may_change(frame, &reply) {
+            return Ok(reply);
         }
+        self.is_synced = false;
+        let Ok(()) = self.journal.keep(frame) else {
+            return Err(Lost);
+        };
         Ok(reply)
     }
 }
 
-/// One turn of each connection to a host, in which at most one frame of it is answered, and kept if it
-/// may have changed the host, before its reply goes out. While more than `most` bytes wait to go out in
-/// all, no frame is taken. If a frame cannot be kept, its reply does not go out, and nothing more is done.
-/// What comes is read through the buffer; if that has no room, nothing is done.
+/// One turn of each connection to a host, in which what waited before goes out, and at most one frame of it
+/// is answered, and kept if it may have changed the host. Behind the turns what was kept is synced, once for
+/// all, where the journal syncs: so each reply goes out in a later round than that in which its frame was
+/// answered, kept and synced. While more than `most` bytes wait to go out in all, no frame is taken. If a
+/// frame cannot be kept, or not synced, its reply does not go out, and nothing more is to be done. What comes
+/// is read through the buffer; if that has no room, nothing is done.
 pub fn serve_round<S: LooseFiles, J: Journal, R: Read, W: Write>(
     host: &mut Host<S>,
     alloc: Global,
@@ -65,26 +76,35 @@ pub fn serve_round<S: LooseFiles, J: Journal, R: Read, W: Write>(
     ensures served { (first : ℕ → Peer) → Stands (peer_in R.remaining W.contents) has_ended first parties.old
         → EndsRound (peer_in R.remaining W.contents) has_ended host.old host.new (J.kept journal.old) (J.kept journal.new) first parties.new result }
     ensures ran { (frames : List Asked) × (replies : List Told) × IsAnswered host.old host.new frames replies }
+    ensures synced { OnOk result (Keeps (J.synced journal.old) (J.kept journal.old) → Keeps (J.synced journal.new) (J.kept journal.new)) }
     ensures cause { IfErr result (λ _. J.can_fail) }
     ensures whole { OnOk result (J.is_cut journal.new ≡ J.is_cut journal.old) }
     ensures cut { OnErr result (J.is_cut journal.new ≡ true) }
     ensures buffer { length buffer.new ≡ length buffer.old }
 {
-    let mut keeping = Keeping { host, journal };
+    let mut keeping = Keeping {
+        host,
+        journal,
+        is_synced: true,
+    };
     keep_round(&mut keeping, alloc, parties, buffer, most)
 }
 
-// The same, of a host and what keeps its frames.
-fn keep_round<S: LooseFiles, J: Journal, R: Read, W: Write>(
+// The turns, of a host and what keeps its frames.
+fn turns<S: LooseFiles, J: Journal, R: Read, W: Write>(
     keeping: &mut Keeping<'_, S, J>,
     alloc: Global,
     parties: &mut [Party<R, W>],
     buffer: &mut [u8],
     most: usize,
 ) -> Result<(), NotKept>
-    ensures served { (first : ℕ → Peer) → Stands (peer_in R.remaining W.contents) has_ended first parties.old
-        → EndsRound (peer_in R.remaining W.contents) has_ended keeping.old.host.now keeping.new.host.now (J.kept keeping.old.journal.now) (J.kept keeping.new.journal.now) first parties.new result }
+    ensures served { OnOk result ((first : ℕ → Peer) → Stands (peer_in R.remaining W.contents) has_ended first parties.old
+        → IsRound (peer_in R.remaining W.contents) has_ended keeping.old.host.now keeping.new.host.now (J.kept keeping.old.journal.now) (J.kept keeping.new.journal.now) first parties.new) }
+    ensures stopped { OnErr result ((first : ℕ → Peer) → Stands (peer_in R.remaining W.contents) has_ended first parties.old
+        → IsCutOff keeping.old.host.now keeping.new.host.now (J.kept keeping.old.journal.now) first) }
     ensures ran { (frames : List Asked) × (replies : List Told) × IsAnswered keeping.old.host.now keeping.new.host.now frames replies }
+    ensures synced { OnOk result (SyncedIf keeping.old.is_synced (J.synced keeping.old.journal.now) (J.kept keeping.old.journal.now)
+        → SyncedIf keeping.new.is_synced (J.synced keeping.new.journal.now) (J.kept keeping.new.journal.now)) }
     ensures cause { IfErr result (λ _. J.can_fail) }
     ensures whole { OnOk result (J.is_cut keeping.new.journal.now ≡ J.is_cut keeping.old.journal.now) }
     ensures cut { OnErr result (J.is_cut keeping.new.journal.now ≡ true) }
@@ -96,4 +116,46 @@ fn keep_round<S: LooseFiles, J: Journal, R: Read, W: Write>(
         Ok(()) => Ok(()),
         Err(_) => Err(NotKept),
     }
+}
+
+// The turns, and then the sync.
+fn keep_round<S: LooseFiles, J: Journal, R: Read, W: Write>(
+    keeping: &mut Keeping<'_, S, J>,
+    alloc: Global,
+    parties: &mut [Party<R, W>],
+    buffer: &mut [u8],
+    most: usize,
+) -> Result<(), NotKept>
+    ensures served { (first : ℕ → Peer) → Stands (peer_in R.remaining W.contents) has_ended first parties.old
+        → EndsRound (peer_in R.remaining W.contents) has_ended keeping.old.host.now keeping.new.host.now (J.kept keeping.old.journal.now) (J.kept keeping.new.journal.now) first parties.new result }
+    ensures ran { (frames : List Asked) × (replies : List Told) × IsAnswered keeping.old.host.now keeping.new.host.now frames replies }
+    ensures synced { OnOk result (SyncedIf keeping.old.is_synced (J.synced keeping.old.journal.now) (J.kept keeping.old.journal.now) → Keeps (J.synced keeping.new.journal.now) (J.kept keeping.new.journal.now)) }
+    ensures cause { IfErr result (λ _. J.can_fail) }
+    ensures whole { OnOk result (J.is_cut keeping.new.journal.now ≡ J.is_cut keeping.old.journal.now) }
+    ensures cut { OnErr result (J.is_cut keeping.new.journal.now ≡ true) }
+    ensures buffer { length buffer.new ≡ length buffer.old }
+    ensures host { keeping.new.host.ghost_name ≡ keeping.old.host.ghost_name }
+    ensures journal { keeping.new.journal.ghost_name ≡ keeping.old.journal.ghost_name }
+{
+    match turns(keeping, alloc, parties, buffer, most) {
+        Ok(()) => sync(keeping),
+        Err(_) => Err(NotKept),
+    }
+}
+
+// Syncs what was kept, if anything was.
+fn sync<S: LooseFiles, J: Journal>(keeping: &mut Keeping<'_, S, J>) -> Result<(), NotKept>
+    ensures synced { OnOk result (SyncedIf keeping.old.is_synced (J.synced keeping.old.journal.now) (J.kept keeping.old.journal.now) → Keeps (J.synced keeping.new.journal.now) (J.kept keeping.new.journal.now)) }
+    ensures kept { Keeps (J.kept keeping.old.journal.now) (J.kept keeping.new.journal.now) }
+    ensures cause { IfErr result (λ _. J.can_fail) }
+    ensures whole { OnOk result (J.is_cut keeping.new.journal.now ≡ J.is_cut keeping.old.journal.now) }
+    ensures cut { OnErr result (J.is_cut keeping.new.journal.now ≡ true) }
+    ensures answers { keeping.new.host.now ≡ keeping.old.host.now }
+    ensures host { keeping.new.host.ghost_name ≡ keeping.old.host.ghost_name }
+    ensures journal { keeping.new.journal.ghost_name ≡ keeping.old.journal.ghost_name }
+{
+    if keeping.is_synced {
+        return Ok(());
+    }
+    keeping.journal.sync()
 }

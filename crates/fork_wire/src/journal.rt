@@ -1,13 +1,16 @@
 ghost use Rattle.std.specs.Prelude.{◌≡◌, ℕ, Bool, true, false, List, Option, IfErr, IfOk, OnErr, OnOk};
-ghost use Rattle.std.specs.Io.KnownBytes.{Appends};
+ghost use Rattle.std.specs.Io.KnownBytes.{Appends, Keeps};
 ghost use Rattle.fork_frame.specs.Frame.{frame_bytes};
 
+use crate::journaling::visits_all;
+use chained_log::SyncData;
 use fork_frame::{Frame, write_frame};
 use fork_request::MAX_PAYLOAD;
 use std::alloc::{AllocError, Global};
 use std::io::Write;
 
-/// A frame could not be kept, or only in part. Nothing more may be kept after it.
+/// A frame could not be kept, or only in part, or what was kept could not be synced. Nothing more may be
+/// kept after it.
 #[derive(Clone, Copy, Debug, PartialEq, Eq)]
 pub struct NotKept;
 
@@ -16,15 +19,26 @@ pub trait Journal {
     /// The bytes of the frames that it has, if they are known.
     ghost kept: { Self → Option (List ℕ) };
 
-    /// Whether keeping a frame may fail.
+    /// The bytes that a loss of power leaves, if they are known.
+    ghost synced: { Self → Option (List ℕ) };
+
+    /// Whether keeping or syncing may fail.
     ghost can_fail: { Type 0 };
 
-    /// Whether keeping a frame failed, so that the last one may be incomplete.
+    /// Whether keeping or syncing failed, so that the last frames may be incomplete.
     ghost is_cut: { Self → Bool };
 
     /// Appends a frame.
     fn keep(&mut self, frame: &Frame) -> Result<(), NotKept>
         ensures ok { OnOk result (Appends (kept self.old) (kept self.new) (frame_bytes frame.now)) }
+        ensures cause { IfErr result (λ _. can_fail) }
+        ensures whole { OnOk result (is_cut self.new ≡ is_cut self.old) }
+        ensures cut { OnErr result (is_cut self.new ≡ true) };
+
+    /// Syncs all that was kept, so that a loss of power leaves it.
+    fn sync(&mut self) -> Result<(), NotKept>
+        ensures ok { OnOk result (Keeps (synced self.new) (kept self.new)) }
+        ensures kept { Keeps (kept self.old) (kept self.new) }
         ensures cause { IfErr result (λ _. can_fail) }
         ensures whole { OnOk result (is_cut self.new ≡ is_cut self.old) }
         ensures cut { OnErr result (is_cut self.new ≡ true) };
@@ -39,6 +53,8 @@ impl Journal for NoJournal {
 
     ghost kept = { λ _. None };
 
+    ghost synced = { λ _. None };
+
     ghost can_fail = { ⊥ };
 
     ghost is_cut = { λ _. false };
@@ -46,32 +62,44 @@ impl Journal for NoJournal {
     fn keep(&mut self, _frame: &Frame) -> Result<(), NotKept> {
         Ok(())
     }
+
+    fn sync(&mut self) -> Result<(), NotKept> {
+        Ok(())
+    }
 }
 
-/// A journal that writes each frame at once.
+/// A journal that writes each frame at once, and syncs what it wrote if it was made so.
 #[derive(Drop)]
 pub struct Written<W> {
     writer: W,
     // The frame that is being kept.
     frame: Vec<u8>,
     bytes: u64,
+    // How many of the frames visit all objects of a tenant when they are repeated.
+    visits: u64,
     is_cut: bool,
+    // Whether its writer is synced.
+    syncs: bool,
 }
 
 // Room for the longest frame: its line, LF, and the payload.
 const LONGEST_FRAME: usize = MAX_PAYLOAD + 41;
 
 impl<W: Write + Drop> Written<W> {
-    /// A journal that writes after what the writer has. It allocates all its memory here.
-    pub fn new(alloc: Global, writer: W) -> Result<Written<W>, AllocError>
-        ensures { IfOk result (λ journal. (journal.writer ≡ writer) × (journal.bytes ≡ 0) × (journal.is_cut ≡ false)) }
+    /// A journal that writes after what the writer has, and syncs it if `syncs`. It allocates all its memory
+    /// here.
+    pub fn new(alloc: Global, writer: W, syncs: bool) -> Result<Written<W>, AllocError>
+        ensures begins { IfOk result (λ journal. (journal.writer ≡ writer) × (journal.bytes ≡ 0) × (journal.is_cut ≡ false)) }
+        ensures syncs { IfOk result (λ journal. journal.syncs ≡ syncs) }
     {
         let frame = Vec::with_capacity(alloc, LONGEST_FRAME)?;
         Ok(Written {
             writer,
             frame,
             bytes: 0,
+            visits: 0,
             is_cut: false,
+            syncs,
         })
     }
 }
@@ -83,10 +111,22 @@ impl<W> Written<W> {
     {
         self.bytes
     }
+
+    /// How many of the frames that were kept may visit all objects of a tenant when they are repeated: such a
+    /// frame is short, and takes long.
+    pub fn visits(&self) -> u64
+        ensures { result ≡ self.now.visits }
+    {
+        self.visits
+    }
 }
 
-impl<W: Write> Journal for Written<W> {
+impl<W: SyncData> Journal for Written<W> {
+    ghost use Rattle.std.specs.Prelude.{None, cond};
+
     ghost kept = { λ journal. W.contents journal.writer };
+
+    ghost synced = { λ journal. cond journal.syncs (W.synced journal.writer) None };
 
     ghost can_fail = { Unit {0} };
 
@@ -103,6 +143,23 @@ impl<W: Write> Journal for Written<W> {
             return Err(NotKept);
         };
         self.bytes = self.bytes.saturating_add(self.frame.len() as u64);
+        if visits_all(frame.payload.as_bytes()) {
+            self.visits = self.visits.saturating_add(1);
+        }
+        Ok(())
+    }
+
+    fn sync(&mut self) -> Result<(), NotKept> {
+        if self.is_cut {
+            return Err(NotKept);
+        }
+        if !self.syncs {
+            return Ok(());
+        }
+        let Ok(()) = self.writer.sync() else {
+            self.is_cut = true;
+            return Err(NotKept);
+        };
         Ok(())
     }
 }

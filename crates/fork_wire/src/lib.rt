@@ -7,7 +7,7 @@ mod again;
 mod at_once;
 mod fault;
 mod journal;
-mod keeping;
+mod journaling;
 mod laws;
 mod session;
 mod uploads;

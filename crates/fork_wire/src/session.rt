@@ -10,7 +10,7 @@ ghost use Rattle.fork_wire.specs.Sessions.{IsServed, IsStopped, event_of};
 
 use crate::fault::{SessionFault, of_frame, of_reply};
 use crate::journal::{Journal, NoJournal};
-use crate::keeping::keep;
+use crate::journaling::keep_synced;
 use fork_frame::{Asker, Ended, Frame, Next, next_frame, send_bad_frame, send_reply};
 use fork_host::Host;
 use fork_model::a_run_is_private;
@@ -41,7 +41,8 @@ pub fn serve<S: LooseFiles, R: Read, W: Write>(
 }
 
 /// Serves one session, as `serve` does, and keeps the frames that may have changed the host, each
-/// before its reply is sent. If one cannot be kept, the session stops and its reply is not sent.
+/// before its reply is sent, and synced where the journal syncs. If one cannot be kept or synced, the session
+/// stops and its reply is not sent.
 pub fn serve_kept<S: LooseFiles, J: Journal, R: Read, W: Write>(
     host: &mut Host<S>,
     alloc: Global,
@@ -65,6 +66,10 @@ pub fn serve_kept<S: LooseFiles, J: Journal, R: Read, W: Write>(
     ensures kept_so_far { IfErr result (λ fault. fault ≢ SessionFault.Journal → (session : IsStopped host.old host.new
         (R.remaining reader.old) (W.contents writer.old) (W.contents writer.new) fault)
         × Appends (J.kept journal.old) (J.kept journal.new) (kept_bytes session.frames session.replies)) }
+
+    // What was kept is synced, if it was at first.
+    ensures synced { IfOk result (λ _. Keeps (J.synced journal.old) (J.kept journal.old) → Keeps (J.synced journal.new) (J.kept journal.new)) }
+    ensures synced_so_far { IfErr result (λ fault. fault ≢ SessionFault.Journal → Keeps (J.synced journal.old) (J.kept journal.old) → Keeps (J.synced journal.new) (J.kept journal.new)) }
 
     // If a frame could not be kept, that is how the session ended; otherwise the journal is as complete as
     // it was.
@@ -96,8 +101,8 @@ pub(crate) fn answer<S: LooseFiles>(host: &mut Host<S>, alloc: Global, frame: &F
     }
 }
 
-// Answers a request as received and keeps it if it may have changed the host. Returns whether keeping
-// succeeded.
+// Answers a request as received, and keeps it, synced, if it may have changed the host. Returns whether
+// that succeeded.
 fn answer_kept<S: LooseFiles, J: Journal>(
     host: &mut Host<S>,
     alloc: Global,
@@ -106,12 +111,13 @@ fn answer_kept<S: LooseFiles, J: Journal>(
 ) -> (Reply, bool)
     ensures step { IsStep host.old (event_of frame) result.0 host.new }
     ensures kept { IsTrue result.1 → Appends (J.kept journal.old) (J.kept journal.new) (kept_one frame result.0) }
+    ensures synced { IsTrue result.1 → Keeps (J.synced journal.old) (J.kept journal.old) → Keeps (J.synced journal.new) (J.kept journal.new) }
     ensures cause { result.1 ≡ false → J.can_fail }
     ensures whole { IsTrue result.1 → J.is_cut journal.new ≡ J.is_cut journal.old }
     ensures cut { result.1 ≡ false → J.is_cut journal.new ≡ true }
 {
     let reply = answer(host, alloc, &frame);
-    let kept = keep(journal, &frame, &reply);
+    let kept = keep_synced(journal, &frame, &reply);
     (reply, kept)
 }
 

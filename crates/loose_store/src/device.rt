@@ -7,14 +7,14 @@ use std::io::{ErrorKind, Read};
 use std::rt::Files;
 use std::{fs, io};
 
-/// The longest file of an object: 8 MiB of content and its header. What is longer, or is no regular file,
-/// is read as a file of no bytes, which is no object's.
+/// The longest file of an object: 8 MiB of content and its header. A longer file, or one that is not regular,
+/// is read as an empty file, which is never an object's.
 pub(crate) const MAX_FILE: u64 = 8_388_608 + 15;
 
-/// What is called so is a file that is being written. At the next start it is removed.
+/// The name of a file while it is being written. The next start removes it.
 pub(crate) const PART: &str = "part";
 
-/// Want of memory is told as such, and every other error as the device's.
+/// Lack of memory is reported as such, and every other error as the device's.
 pub(crate) fn told<T: Drop>(answer: io::Result<T>) -> Result<T, FileFault>
     ensures ok { IfOk answer (λ value. result ≡ Ok value) }
     ensures err { IfErr answer (λ _. IsErr result) }
@@ -26,7 +26,7 @@ pub(crate) fn told<T: Drop>(answer: io::Result<T>) -> Result<T, FileFault>
     }
 }
 
-/// The answer, and none where the file is not there, or its folder is none.
+/// The answer, or `None` if the file does not exist or its parent is not a folder.
 pub(crate) fn found<T: Drop>(answer: io::Result<T>) -> io::Result<Option<T>>
     ensures { IfOk answer (λ value. result ≡ Ok (Some value)) }
 {
@@ -39,7 +39,7 @@ pub(crate) fn found<T: Drop>(answer: io::Result<T>) -> io::Result<Option<T>>
     }
 }
 
-/// An entry of a folder, and none where its name is no text.
+/// An entry of a folder, or `None` if its name is not UTF-8.
 pub(crate) fn readable<T: Drop>(entry: io::Result<T>) -> io::Result<Option<T>>
     ensures { IfOk entry (λ entry. result ≡ Ok (Some entry)) }
 {
@@ -52,7 +52,7 @@ pub(crate) fn readable<T: Drop>(entry: io::Result<T>) -> io::Result<Option<T>>
     }
 }
 
-/// What is known of a regular file. A pipe or a device is not opened, as that might never end.
+/// The metadata of a regular file. A pipe or a device is an error, since opening one may block forever.
 pub(crate) fn regular(rt: &impl Files, path: &str) -> io::Result<Metadata> {
     let found = fs::metadata(rt, path)?;
     if !found.is_file() {
@@ -61,8 +61,8 @@ pub(crate) fn regular(rt: &impl Files, path: &str) -> io::Result<Metadata> {
     Ok(found)
 }
 
-/// All bytes of a file of this length. There is room for one more, so that its end is read with no
-/// growth.
+/// All bytes of a file of this length. The buffer has room for one more, so reading the end of the file does
+/// not grow it.
 fn read_all(rt: &impl Files, alloc: Global, path: &str, length: u64) -> io::Result<Vec<u8>> {
     let mut file = fs::open(rt, path)?;
     let mut bytes = Vec::with_capacity(alloc, (length as usize).saturating_add(1))?;
@@ -76,7 +76,7 @@ pub(crate) fn read_whole(rt: &impl Files, alloc: Global, path: &str) -> io::Resu
     read_all(rt, alloc, path, length)
 }
 
-/// All bytes of a regular file of at most this length, and no bytes of what else has this path.
+/// All bytes of a regular file of at most this length, and no bytes for anything else at this path.
 pub(crate) fn read_at_most(
     rt: &impl Files,
     alloc: Global,
@@ -90,8 +90,8 @@ pub(crate) fn read_at_most(
     read_all(rt, alloc, path, found.len())
 }
 
-/// Gives a part that was written and closed the name of its file, in the place of a file that is
-/// there. A part that was not written whole is removed.
+/// Renames a part that was written and closed to its file, replacing a file of that name. A part that was not
+/// written completely is removed.
 pub(crate) fn settle(
     rt: &impl Files,
     written: io::Result<()>,

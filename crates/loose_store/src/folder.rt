@@ -7,34 +7,35 @@ use crate::failures::counted;
 use crate::files::{FileFault, LooseFiles};
 use crate::journal_file::JOURNALS;
 use crate::listing::list_all;
-use crate::making::{create_folder, create_folders, open_lock, write_file};
+use crate::making::{create_all, create_folder, open_lock, write_file};
 use crate::place::{home_of, inside, path_of};
-use crate::swept::{put_all_back, sweep_at};
+use crate::swept::{empty_swept, put_all_back, sweep_at, sync_move};
+use crate::unsynced::Unsynced;
 use git_name::{Hashing, Name};
-use std::alloc::Global;
+use std::alloc::{AllocError, Global};
 use std::fs::File;
 use std::io::ErrorKind;
 use std::random::RandomSource;
 use std::rt::Files;
 use std::{fs, io};
 
-/// Files in a folder of the file system: under `objects/`, two digits, `/`, 62 digits. An object's
-/// file is whole or not there, whenever the process is killed. It is not synced, so after a loss of
-/// power it may be lost or damaged. A file that is taken away is kept as `swept/` and 64 digits, and is
-/// back in its place when the folder is opened anew, unless it was let go (`empty_swept`). What a device
-/// holds is known to no contract, so this store claims no honesty: of its clauses the count of failures
-/// alone says something.
+/// Files in a folder of the file system: under `objects/`, two digits, `/`, 62 digits. Whenever the process is
+/// killed, an object's file is whole or does not exist. A loss of power may lose or damage it, unless it was
+/// synced (`sync`). A removed file is kept as `swept/` and 64 digits. Opening the folder again puts it back,
+/// unless the removal was made final (`forget_removed`). No contract says what a device holds, so this store
+/// does not claim to be honest: of its clauses only the count of failures says anything.
 #[derive(Drop)]
 pub struct Folder<R> {
     rt: R,
     path: String,
     lock: File,
     hashing: Hashing,
+    unsynced: Unsynced,
+    has_swept: bool,
     failures: u64,
 }
 
-// Takes the lock of a folder, which ends with the file that is answered. The file `lock` itself
-// stays, and says nothing.
+// Locks a folder for as long as the returned file is open. The file `lock` itself stays and means nothing.
 fn locked<R: Files<File = File>>(rt: &R, alloc: Global, folder: &str) -> io::Result<File> {
     let path = inside(alloc, folder, "lock")?;
     found(regular(rt, path.as_str()))?;
@@ -49,7 +50,7 @@ fn clear_part(rt: &impl Files, alloc: Global, folder: &str) -> io::Result<()> {
     Ok(())
 }
 
-// Removes what a killed process was writing.
+// Removes the parts that a killed process was writing.
 fn clear_parts(rt: &impl Files, alloc: Global, folder: &str) -> io::Result<()> {
     clear_part(rt, alloc, folder)?;
     let journals = inside(alloc, folder, JOURNALS)?;
@@ -62,7 +63,7 @@ fn clear_parts(rt: &impl Files, alloc: Global, folder: &str) -> io::Result<()> {
     Ok(())
 }
 
-// Makes a folder where it is not there, and takes it for this process. What was swept is back in it.
+// Creates a folder and all folders in it, unless they exist, and locks it. Puts back what was swept.
 fn taken<R: Files<File = File> + AllocGlobal + Clone + Drop>(
     rt: &R,
     alloc: Global,
@@ -71,8 +72,7 @@ fn taken<R: Files<File = File> + AllocGlobal + Clone + Drop>(
     if folder.is_empty() {
         return Err(io::Error::from(ErrorKind::NotFound));
     }
-    let objects = inside(alloc, folder, "objects")?;
-    create_folders(rt, objects.as_str())?;
+    create_all(rt, alloc, folder)?;
     let lock = locked(rt, alloc, folder)?;
     clear_parts(rt, alloc, folder)?;
     put_all_back(rt, alloc, folder)?;
@@ -80,10 +80,10 @@ fn taken<R: Files<File = File> + AllocGlobal + Clone + Drop>(
 }
 
 impl<R: Files<File = File> + AllocGlobal + RandomSource + Clone + Drop> Folder<R> {
-    /// Opens the folder of this path, which is made with its parents where it is not there. While it
-    /// is open no other process can open it: for that it is a fault of the device. A process that is
-    /// killed lets go of it; what it was writing is removed here, and what was swept and not let go is
-    /// put back.
+    /// Opens the folder of this path, and creates it and its parents if they do not exist. While it is open,
+    /// another process that opens it gets a fault of the device. A process that is killed unlocks it. The parts
+    /// that such a process was writing are removed here, and swept files are put back unless their removal
+    /// was made final.
     pub fn open(rt: R, alloc: Global, path: &str) -> Result<Folder<R>, FileFault> {
         let text = String::from_str(alloc, path)?;
         let lock = told(taken(&rt, alloc, path))?;
@@ -93,6 +93,8 @@ impl<R: Files<File = File> + AllocGlobal + RandomSource + Clone + Drop> Folder<R
             path: text,
             lock,
             hashing,
+            unsynced: Unsynced::new(alloc, hashing),
+            has_swept: false,
             failures: 0,
         })
     }
@@ -108,7 +110,7 @@ fn read_at(
     found(read_at_most(rt, alloc, path.as_str(), MAX_FILE))
 }
 
-// A part lies beside its file, so that the file system gives it its name in one step.
+// The part is in the same folder, so one rename gives the file its name.
 fn write_in(
     rt: &impl Files,
     alloc: Global,
@@ -121,6 +123,7 @@ fn write_in(
     settle(rt, written, part.as_str(), path)
 }
 
+// Writes a whole file. If somebody removed its folder, it is created again.
 fn write_at(
     rt: &impl Files,
     alloc: Global,
@@ -137,7 +140,24 @@ fn write_at(
     write_in(rt, alloc, home.as_str(), path.as_str(), bytes)
 }
 
-// The answer of the file system as the store's, and the count after it.
+// Notes that a file is not synced, and writes it. If one of its name was swept, that is synced first.
+fn put_at(
+    rt: &impl Files,
+    alloc: Global,
+    folder: &str,
+    has_swept: bool,
+    unsynced: &mut Unsynced,
+    name: Name,
+    bytes: &[u8],
+) -> io::Result<()> {
+    unsynced.note(name)?;
+    if has_swept {
+        sync_move(rt, alloc, folder, name)?;
+    }
+    write_at(rt, alloc, folder, name, bytes)
+}
+
+// The answer of the file system as one of the store, which is counted if it is a failure.
 fn answered<T: Drop>(failures: &mut u64, answer: io::Result<T>) -> Result<T, FileFault>
     ensures { Counts failures.old failures.new result }
 {
@@ -160,11 +180,21 @@ impl<R: Files + AllocGlobal + Clone + Drop> LooseFiles for Folder<R> {
     }
 
     fn put(&mut self, alloc: Global, name: Name, bytes: &[u8]) -> Result<(), FileFault> {
-        let answer = write_at(&self.rt, alloc, self.path.as_str(), name, bytes);
+        let answer = put_at(
+            &self.rt,
+            alloc,
+            self.path.as_str(),
+            self.has_swept,
+            &mut self.unsynced,
+            name,
+            bytes,
+        );
         answered(&mut self.failures, answer)
     }
 
     fn remove(&mut self, alloc: Global, name: Name) -> Result<(), FileFault> {
+        self.has_swept = true;
+        self.unsynced.forget(name);
         let answer = sweep_at(&self.rt, alloc, self.path.as_str(), name);
         answered(&mut self.failures, answer)
     }
@@ -172,6 +202,35 @@ impl<R: Files + AllocGlobal + Clone + Drop> LooseFiles for Folder<R> {
     fn names(&mut self, alloc: Global) -> Result<Vec<Name>, FileFault> {
         let answer = list_all(&self.rt, alloc, self.path.as_str());
         answered(&mut self.failures, answer)
+    }
+
+    fn rely_on(&mut self, name: Name) -> Result<(), AllocError> {
+        self.unsynced.note(name)
+    }
+
+    fn sync(&mut self, alloc: Global) -> Result<(), FileFault> {
+        match self.unsynced.sync(&self.rt, alloc, self.path.as_str()) {
+            Ok(()) => Ok(()),
+            Err(_) if self.unsynced.has_failed() => Err(FileFault::Device),
+            Err(_) => Err(FileFault::Memory),
+        }
+    }
+
+    fn sync_ahead(&mut self, alloc: Global) -> Result<(), FileFault> {
+        told(
+            self.unsynced
+                .sync_ahead(&self.rt, alloc, self.path.as_str()),
+        )
+    }
+
+    fn has_removed(&self) -> bool {
+        self.has_swept
+    }
+
+    fn forget_removed(&mut self, alloc: Global) -> Result<(), FileFault> {
+        told(empty_swept(&self.rt, alloc, self.path.as_str()))?;
+        self.has_swept = false;
+        Ok(())
     }
 
     fn hashing(&self) -> Hashing {

@@ -6,7 +6,7 @@ ghost use Rattle.loose_store.specs.Journal.{journal_called};
 use crate::device::{PART, found, readable, regular, settle, told};
 use crate::files::FileFault;
 use crate::journal_line::{line_of, name_called, read_line};
-use crate::making::{create_file, create_folders};
+use crate::making::{create_file, create_folder, sync_folder};
 use crate::place::inside;
 use git_name::Name;
 use sha2::{Digest, Sha256};
@@ -26,7 +26,7 @@ pub fn journal_name(state: &[u8]) -> Name
     Name::new(Sha256::digest(state))
 }
 
-// The path of the journal of this name in the form before, which had frames alone.
+// The path of the journal of this name in version 1, which has only frames.
 fn path_of_old(alloc: Global, folder: &str, name: Name) -> Result<String, AllocError>
     ensures { IfOk result (λ path. string_bytes path ≡ folder.now ++ codes "/journal/" ++ encode_lower name) }
 {
@@ -91,7 +91,7 @@ pub(crate) fn open_old_in<R: Files>(
 fn begin_in<R: Files>(rt: &R, alloc: Global, folder: &str, standing: Name) -> io::Result<R::File> {
     let home = inside(alloc, folder, JOURNALS)?;
     let part = inside(alloc, home.as_str(), PART)?;
-    create_folders(rt, home.as_str())?;
+    create_folder(rt, home.as_str())?;
     let mut file = create_file(rt, part.as_str())?;
     file.write_all(line_of(standing).as_slice())?;
     Ok(file)
@@ -108,16 +108,24 @@ fn settle_in<R: Files>(
     let part = inside(alloc, home.as_str(), PART)?;
     let path = path_of_journal(alloc, folder, name)?;
     settle(rt, file.sync_all(), part.as_str(), path.as_str())?;
-    fs::open(rt, home.as_str())?.sync_all()
+    sync_folder(rt, home.as_str())
 }
 
-// Whether what is called so is the journal of this name, in the form before only where there is no other.
+// Whether a file called so is the journal of this name. One of version 1 is, if there is no other.
 fn is_journal(called: &str, name: Name, is_there: bool) -> bool {
     let called = called.as_bytes();
     if is_there {
         name_called(called) == Some(name)
     } else {
         Name::parse_hex(called) == Some(name)
+    }
+}
+
+// Whether a folder is at this path, which nothing of the host's made.
+fn is_folder(rt: &impl Files, path: &str) -> io::Result<bool> {
+    match found(fs::symlink_metadata(rt, path))? {
+        Some(known) => Ok(known.is_dir()),
+        None => Ok(false),
     }
 }
 
@@ -135,8 +143,8 @@ fn clear_in<R: Files + AllocGlobal + Clone + Drop>(
     };
     for entry in entries {
         if let Some(entry) = readable(entry)? {
-            if !is_journal(entry.file_name(), name, is_there) {
-                let other = inside(alloc, home.as_str(), entry.file_name())?;
+            let other = inside(alloc, home.as_str(), entry.file_name())?;
+            if !is_journal(entry.file_name(), name, is_there) && !is_folder(rt, other.as_str())? {
                 fs::remove_file(rt, other.as_str())?;
             }
         }
@@ -144,8 +152,7 @@ fn clear_in<R: Files + AllocGlobal + Clone + Drop>(
     Ok(())
 }
 
-/// The journal of this name in the folder of this path, opened after its first line, and none where it is
-/// not there.
+/// The journal of this name in the folder of this path, opened after its first line, if it exists.
 pub fn open_journal<R: Files>(
     rt: &R,
     alloc: Global,
@@ -155,7 +162,7 @@ pub fn open_journal<R: Files>(
     told(open_after_line(rt, alloc, path, name))
 }
 
-/// The same in the form before, which has frames alone, opened at its beginning.
+/// The same in version 1, which has only frames, opened at its beginning.
 pub fn open_old_journal<R: Files>(
     rt: &R,
     alloc: Global,
@@ -165,8 +172,8 @@ pub fn open_old_journal<R: Files>(
     told(open_old_in(rt, alloc, path, name))
 }
 
-/// A new journal without a name, with its first line, to be written on: the state's text that stands there
-/// has this name. The folder must be there, and open in this process alone (`Folder::open`).
+/// A new journal that has no name yet, with its first line written. `standing` is the name of the state's text
+/// in the folder. This process must have the folder open (`Folder::open`).
 pub fn begin_journal<R: Files>(
     rt: &R,
     alloc: Global,
@@ -176,8 +183,8 @@ pub fn begin_journal<R: Files>(
     told(begin_in(rt, alloc, path, standing))
 }
 
-/// Gives the new journal, as it was written so far, its name, in the place of one that is there. It is
-/// synced, and is still to be written on. After an `Err` it may have its name or not.
+/// Syncs the new journal, as written so far, and gives it its name, replacing one of that name. More may be
+/// written to it. After an `Err` it may have its name or not.
 pub fn settle_journal<R: Files>(
     rt: &R,
     alloc: Global,
@@ -188,8 +195,8 @@ pub fn settle_journal<R: Files>(
     told(settle_in(rt, alloc, path, name, file))
 }
 
-/// Removes what lies beside the journal of this name: journals of other states, and what a killed
-/// process was writing. Whether that may go is asked by `has_other_journal`.
+/// Removes what is beside the journal of this name: journals of other states, and what a killed process was
+/// writing. `has_other_journal` says whether it may be removed.
 pub fn clear_journals<R: Files + AllocGlobal + Clone + Drop>(
     rt: &R,
     alloc: Global,

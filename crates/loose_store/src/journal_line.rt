@@ -1,4 +1,4 @@
-// What the file of a journal is called, and its first line.
+// The file name of a journal, and its first line.
 ghost use Rattle.std.specs.Prelude.{◌≡◌, ◌++◌, IfSome, codes};
 ghost use Rattle.hex.specs.Hex.{encode_lower};
 ghost use Rattle.loose_store.specs.Journal.{first_line, journal_called};
@@ -7,15 +7,15 @@ use git_name::Name;
 use std::io;
 use std::io::{ErrorKind, Read};
 
-// The words of a first line before its name, and its length.
+// The length of the first line's words before its name.
 const WORDS: usize = 10;
 
 const NAME_END: usize = WORDS + 64;
 
-/// How many bytes a first line has, with its LF.
+/// The length of a first line, with its LF.
 pub(crate) const LINE: usize = NAME_END + 1;
 
-/// The name of the journal whose file is called so, in the present form.
+/// The name of the journal whose file is called so, in version 2.
 pub(crate) fn name_called(text: &[u8]) -> Option<Name>
     ensures { IfSome result (λ name. text.now ≡ journal_called name) }
 {
@@ -29,7 +29,7 @@ pub(crate) fn name_called(text: &[u8]) -> Option<Name>
     Name::parse_hex(digits)
 }
 
-/// The first line of a journal that is begun while this is the name of the state's text.
+/// The first line of a journal that is begun when the state's text has this name.
 pub(crate) fn line_of(standing: Name) -> [u8; LINE]
     ensures { result ≡ first_line standing }
 {
@@ -54,7 +54,7 @@ fn name_in(line: &[u8; LINE]) -> Option<Name>
     Some(name)
 }
 
-/// Reads the first line of a journal, and gives the name in it.
+/// Reads the first line of a journal, and returns the name in it.
 pub(crate) fn read_line(file: &mut impl Read) -> io::Result<Name> {
     let mut line = [0; LINE];
     file.read_exact(&mut line)?;

@@ -1,6 +1,6 @@
-//! Files of objects by their names, in memory or in a folder, and the state file beside them.
-//! A checked read gives an object only where a whole file of it stands under its name, and a store
-//! tells a failure of its device exactly where it counts one more.
+//! Files of objects by their names, in memory or in a folder, and the state and journal files of a host.
+//! A checked read returns an object only if its whole file is under its name. A store reports a failure of its
+//! device if and only if it counts one more.
 #![tactic(auto)]
 
 mod checked;
@@ -21,6 +21,7 @@ mod place;
 mod state_file;
 mod stored;
 mod swept;
+mod unsynced;
 
 pub use crate::checked::{StoreFault, read_checked};
 pub use crate::files::{FileFault, LooseFiles};
@@ -34,4 +35,3 @@ pub use crate::memory::Memory;
 pub use crate::other_journals::has_other_journal;
 pub use crate::state_file::{read_state, write_state};
 pub use crate::stored::{content_of, file_of};
-pub use crate::swept::{empty_swept, has_swept};

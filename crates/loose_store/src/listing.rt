@@ -29,7 +29,7 @@ fn list_home<R: Files + AllocGlobal + Clone + Drop>(
     Ok(())
 }
 
-/// The names of all files of a folder, ascending. What is called otherwise is passed over.
+/// The names of all files of a folder, ascending. Files with other names are ignored.
 pub(crate) fn list_all<R: Files + AllocGlobal + Clone + Drop>(
     rt: &R,
     alloc: Global,

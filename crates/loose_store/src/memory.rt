@@ -13,9 +13,9 @@ use nearby::Nearby;
 use std::alloc::{AllocError, Global};
 use std::marker::Model;
 
-/// Files in memory, hashed by their names. They lie in the order in which they came, so that objects that
-/// came together are found near one another. An object that was put stays as it came, and its file is
-/// spelled where it is read.
+/// Files in memory, hashed by their names. They are in the order in which they were put, so objects that came
+/// together are near one another. An object is kept as it was put. The bytes of its file are made when it is
+/// read.
 #[derive(Debug, Drop)]
 pub struct Memory {
     files: IndexMap<Name, MemoryFile, Hashing>,
@@ -54,7 +54,7 @@ fn remove_from(files: &mut IndexMap<Name, MemoryFile, Hashing>, name: Name)
     files.swap_remove(&name);
 }
 
-// The names of the files, in no order.
+// The names of the files, in no particular order.
 fn listed(
     alloc: Global,
     files: &IndexMap<Name, MemoryFile, Hashing>,
@@ -88,7 +88,7 @@ impl Memory {
         Memory::with_hashing(alloc, Hashing::default())
     }
 
-    /// No files, whose names are hashed so.
+    /// No files. Names are hashed so.
     pub fn with_hashing(alloc: Global, hashing: Hashing) -> Memory
         ensures { result ≡ map.empty }
     {
@@ -98,7 +98,7 @@ impl Memory {
         }
     }
 
-    /// Puts these bytes under a name, so that a test can damage a file.
+    /// Puts these bytes under a name. A test can damage a file by it.
     pub fn set(&mut self, alloc: Global, name: Name, bytes: &[u8]) -> Result<(), AllocError>
         ensures ok { OnOk result (self.new ≡ map.insert self.old name bytes.now) }
         ensures err { OnErr result (self.new ≡ self.old) }

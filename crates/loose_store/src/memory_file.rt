@@ -5,7 +5,7 @@ use crate::stored::typed;
 use git_name::Kind;
 use std::alloc::{AllocError, Global};
 
-// A file in memory: bytes as they were put, or the kind and the content of the object whose file it is.
+// A file in memory: the bytes that were put, or the kind and the content of an object.
 #[derive(Debug, Drop)]
 pub(crate) enum MemoryFile {
     Bytes(Vec<u8>),

@@ -8,14 +8,14 @@ use std::alloc::Global;
 use std::rt::Files;
 use std::{fs, io};
 
-// The journal of the state that stands there.
+// The journal of the state in the folder.
 #[derive(Drop)]
 enum Standing {
     // There is none.
     None,
-    // In the form before, which says nothing of others.
+    // In version 1, which does not name the state before.
     Old,
-    // It was begun while the state of this name stood there.
+    // It was begun when the state in the folder had this name.
     After(Name),
 }
 
@@ -29,7 +29,7 @@ fn standing_in<R: Files>(rt: &R, alloc: Global, folder: &str, name: Name) -> io:
     }
 }
 
-// Whether the journal of this other name was begun while the state of this name stood there.
+// Whether the journal `other` was begun when the state in the folder had this name.
 fn is_begun_after<R: Files>(rt: &R, alloc: Global, folder: &str, other: Name, name: Name) -> bool {
     match open_in(rt, alloc, folder, other) {
         Ok(Some((_file, before))) => before == name,
@@ -38,8 +38,8 @@ fn is_begun_after<R: Files>(rt: &R, alloc: Global, folder: &str, other: Name, na
     }
 }
 
-// Whether a saving that was killed leaves the journal of this other name beside the one of this name: the
-// journal of the state that was replaced, or one of a state that was to come.
+// Whether a save that was killed leaves the journal `other` beside the one of this name: as the journal of the
+// state that was replaced, or of the state that was to replace it.
 fn is_left_over<R: Files>(
     rt: &R,
     alloc: Global,
@@ -57,7 +57,7 @@ fn is_left_over<R: Files>(
     }
 }
 
-// How many bytes a file has, and none where it is no regular file or is gone.
+// The length of a regular file, and 0 for anything else.
 fn length_of(rt: &impl Files, path: &str) -> io::Result<u64> {
     match found(fs::symlink_metadata(rt, path))? {
         Some(known) if known.is_file() => Ok(known.len()),
@@ -65,7 +65,7 @@ fn length_of(rt: &impl Files, path: &str) -> io::Result<u64> {
     }
 }
 
-// Whether what is called so is a journal of another state that has more than its first line.
+// Whether a file called so is a journal of another state that has more than its first line.
 fn is_other<R: Files>(
     rt: &R,
     alloc: Global,
@@ -114,9 +114,8 @@ fn other_in<R: Files + AllocGlobal + Clone + Drop>(
     Ok(false)
 }
 
-/// Whether beside the journal of this name there is one of another state that has anything, and that no
-/// saving that was killed leaves there. One in the form before counts only where there is no journal of
-/// this name.
+/// Whether beside the journal of this name there is a journal of another state that has any frames, and that
+/// is not left by a save that was killed. One of version 1 counts only if there is no journal of this name.
 pub fn has_other_journal<R: Files + AllocGlobal + Clone + Drop>(
     rt: &R,
     alloc: Global,

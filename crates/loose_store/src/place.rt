@@ -6,7 +6,10 @@ ghost use Rattle.loose_store.specs.Place.{place_of, front_digits, rest_digits};
 use git_name::Name;
 use std::alloc::{AllocError, Global};
 
-/// The path of what is called so in a folder.
+/// The folder of objects, in a host's folder.
+pub(crate) const OBJECTS: &str = "objects";
+
+/// The path of an entry of a folder.
 pub(crate) fn inside(alloc: Global, folder: &str, called: &str) -> Result<String, AllocError>
     ensures { IfOk result (λ path. string_bytes path ≡ folder.now ++ 47 ∷ called.now) }
 {
@@ -16,7 +19,7 @@ pub(crate) fn inside(alloc: Global, folder: &str, called: &str) -> Result<String
     Ok(path)
 }
 
-/// The path of the folder in which the files lie whose names begin with these bytes.
+/// The path of the folder for files whose names begin with these bytes.
 pub(crate) fn home_of(alloc: Global, folder: &str, first: &[u8]) -> Result<String, AllocError>
     ensures { IfOk result (λ path. string_bytes path ≡ folder.now ++ codes "/objects/" ++ encode_lower first.now) }
 {
@@ -36,8 +39,7 @@ pub(crate) fn path_of(alloc: Global, folder: &str, name: Name) -> Result<String,
     inside(alloc, home.as_str(), rest.as_str())
 }
 
-/// The name whose file is called so, in a folder that is called so. Files and folders that are called
-/// otherwise are of no name.
+/// The name of which these are the folder and the file in it. Any other folder or file is of no name.
 pub(crate) fn name_at(front: &[u8], rest: &[u8]) -> Option<Name>
     ensures found { IfSome result (λ name. (front.now ≡ front_digits name) × (rest.now ≡ rest_digits name)) }
     ensures none { IfNone result ((name : List ℕ) → IsName name → front.now ≡ front_digits name → rest.now ≢ rest_digits name) }

@@ -1,15 +1,15 @@
 use crate::device::{PART, found, read_whole, settle, told};
 use crate::files::FileFault;
-use crate::making::create_file;
+use crate::making::{create_file, sync_folder};
 use crate::place::inside;
 use std::alloc::Global;
 use std::fs::OpenFile;
+use std::io;
 use std::io::Write;
 use std::rt::Files;
-use std::{fs, io};
 
-// The state of a host, in its folder.
-const STATE: &str = "state";
+/// The file of the state in a host's folder.
+pub(crate) const STATE: &str = "state";
 
 fn read_in(rt: &impl Files, alloc: Global, folder: &str) -> io::Result<Option<Vec<u8>>> {
     let path = inside(alloc, folder, STATE)?;
@@ -27,10 +27,10 @@ fn write_in(rt: &impl Files, alloc: Global, folder: &str, bytes: &[u8]) -> io::R
     let part = inside(alloc, folder, PART)?;
     let written = write_synced(rt, part.as_str(), bytes);
     settle(rt, written, part.as_str(), path.as_str())?;
-    fs::open(rt, folder)?.sync_all()
+    sync_folder(rt, folder)
 }
 
-/// The text of the file `state` of the folder of this path, and none where it is not there.
+/// The text of the file `state` in the folder of this path, if it exists.
 pub fn read_state(
     rt: &impl Files,
     alloc: Global,
@@ -39,9 +39,9 @@ pub fn read_state(
     told(read_in(rt, alloc, path))
 }
 
-/// Writes the file `state` of the folder of this path, in the place of one that is there. After an
-/// `Err`, a kill or a loss of power in its middle the old text stands there or the new one, whole;
-/// after `Ok` the new one. The folder must be there, and open in this process alone (`Folder::open`).
+/// Writes the file `state` in the folder of this path, replacing one that exists. After an `Err`, a kill or a
+/// loss of power the file has the whole old text or the whole new one; after `Ok` it has the new one. This
+/// process must have the folder open (`Folder::open`).
 pub fn write_state(
     rt: &impl Files,
     alloc: Global,

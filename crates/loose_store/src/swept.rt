@@ -1,18 +1,18 @@
 ghost use Rattle.std.specs.Prelude.{◌≡◌, IfOk, ◌∷◌, ◌++◌, codes, string_bytes};
 ghost use Rattle.hex.specs.Hex.{encode_lower};
 
-use crate::device::{MAX_FILE, found, read_at_most, readable, told};
-use crate::files::FileFault;
-use crate::making::create_folders;
+use crate::device::{MAX_FILE, found, read_at_most, readable};
+use crate::making::{create_folder, sync_file, sync_folder};
 use crate::place::{home_of, inside, path_of};
 use git_name::Name;
 use sha2::{Digest, Sha256};
 use std::alloc::{AllocError, Global};
+use std::io::ErrorKind;
 use std::rt::Files;
 use std::{fs, io};
 
-// The folder of what was swept, in a host's folder.
-const SWEPT: &str = "swept";
+/// The folder of swept files in a host's folder.
+pub(crate) const SWEPT: &str = "swept";
 
 // The path of the swept file of a name.
 fn path_of_swept(alloc: Global, folder: &str, name: Name) -> Result<String, AllocError>
@@ -25,27 +25,40 @@ fn path_of_swept(alloc: Global, folder: &str, name: Name) -> Result<String, Allo
     Ok(path)
 }
 
-// Moves a file into a folder, which is made where it is not there, in the place of one that is there.
-// Where there is no such file nothing is moved.
-fn move_into(rt: &impl Files, from: &str, home: &str, to: &str) -> io::Result<()> {
-    if found(fs::rename(rt, from, to))?.is_some() {
-        return Ok(());
-    }
-    create_folders(rt, home)?;
-    found(fs::rename(rt, from, to))?;
-    Ok(())
+// Whether something is at this path.
+fn is_there(rt: &impl Files, path: &str) -> io::Result<bool> {
+    Ok(found(fs::symlink_metadata(rt, path))?.is_some())
 }
 
-/// Takes the file of a name from the objects, and keeps it as swept, in the place of one that was swept
-/// before. Where none is there nothing changes.
+// Moves a file into a folder, replacing one of its name. Returns whether it did: if there is no such file, nothing is
+// moved. If somebody removed the folder, it is created again.
+fn move_into(rt: &impl Files, from: &str, home: &str, to: &str) -> io::Result<bool> {
+    if found(fs::rename(rt, from, to))?.is_some() {
+        return Ok(true);
+    }
+    if !is_there(rt, from)? {
+        return Ok(false);
+    }
+    create_folder(rt, home)?;
+    fs::rename(rt, from, to)?;
+    Ok(true)
+}
+
+/// Moves the file of a name from the objects to the swept files. If there is none, nothing changes. If one of this name
+/// was swept before, that one stays, and the file is removed: only the older one is sure to be on the disk.
 pub(crate) fn sweep_at(rt: &impl Files, alloc: Global, folder: &str, name: Name) -> io::Result<()> {
     let path = path_of(alloc, folder, name)?;
     let home = inside(alloc, folder, SWEPT)?;
     let swept = path_of_swept(alloc, folder, name)?;
-    move_into(rt, path.as_str(), home.as_str(), swept.as_str())
+    if is_there(rt, swept.as_str())? {
+        found(fs::remove_file(rt, path.as_str()))?;
+        return Ok(());
+    }
+    move_into(rt, path.as_str(), home.as_str(), swept.as_str())?;
+    Ok(())
 }
 
-// The names of the swept files. What is called otherwise is passed over.
+// The names of the swept files. Files with other names are ignored.
 fn swept_names<R: Files + AllocGlobal + Clone + Drop>(
     rt: &R,
     alloc: Global,
@@ -66,27 +79,50 @@ fn swept_names<R: Files + AllocGlobal + Clone + Drop>(
     Ok(names)
 }
 
-// Whether the object's file stands whole at this path.
+// Whether the object's whole file is at this path. A file that cannot be read is not whole.
 fn is_whole(rt: &impl Files, alloc: Global, path: &str, name: Name) -> io::Result<bool> {
-    let Some(bytes) = found(read_at_most(rt, alloc, path, MAX_FILE))? else {
-        return Ok(false);
-    };
-    Ok(Name::new(Sha256::digest(bytes.as_slice())) == name)
+    match read_at_most(rt, alloc, path, MAX_FILE) {
+        Ok(bytes) => Ok(Name::new(Sha256::digest(bytes.as_slice())) == name),
+        Err(error) if error.kind() == ErrorKind::OutOfMemory => Err(error),
+        Err(_) => Ok(false),
+    }
 }
 
-// Puts a swept file back to its place. Where a whole file of its name is there, which came later, it goes; a file that is torn
-// makes way, as the power may have failed before it was on the disk.
+// Puts a swept file back. If a whole file of its name was written later, that one is synced, and the swept one is
+// removed: until then only the swept one is sure to survive a loss of power. A file that is not whole is replaced:
+// power may have failed before it was on the disk.
 fn put_back(rt: &impl Files, alloc: Global, folder: &str, name: Name) -> io::Result<()> {
     let path = path_of(alloc, folder, name)?;
     let swept = path_of_swept(alloc, folder, name)?;
+    let home = home_of(alloc, folder, &name.as_bytes()[..1])?;
     if is_whole(rt, alloc, path.as_str(), name)? {
+        sync_file(rt, path.as_str())?;
+        sync_folder(rt, home.as_str())?;
         return fs::remove_file(rt, swept.as_str());
     }
-    let home = home_of(alloc, folder, &name.as_bytes()[..1])?;
-    move_into(rt, swept.as_str(), home.as_str(), path.as_str())
+    move_into(rt, swept.as_str(), home.as_str(), path.as_str())?;
+    Ok(())
 }
 
-/// Puts all swept files back, as if nothing had been swept since they were let go last.
+/// Makes the move of the swept file of a name survive a loss of power, if there is one. It is called before another
+/// file takes its old place: both could be lost together otherwise.
+pub(crate) fn sync_move(
+    rt: &impl Files,
+    alloc: Global,
+    folder: &str,
+    name: Name,
+) -> io::Result<()> {
+    let swept = path_of_swept(alloc, folder, name)?;
+    if !is_there(rt, swept.as_str())? {
+        return Ok(());
+    }
+    let home = inside(alloc, folder, SWEPT)?;
+    sync_folder(rt, home.as_str())?;
+    let home = home_of(alloc, folder, &name.as_bytes()[..1])?;
+    sync_folder(rt, home.as_str())
+}
+
+/// Puts all swept files back, so nothing has been swept since removals were last made final.
 pub(crate) fn put_all_back<R: Files + AllocGlobal + Clone + Drop>(
     rt: &R,
     alloc: Global,
@@ -99,7 +135,9 @@ pub(crate) fn put_all_back<R: Files + AllocGlobal + Clone + Drop>(
     Ok(())
 }
 
-fn empty_in<R: Files + AllocGlobal + Clone + Drop>(
+/// Removes the swept files. No state and no journal in the folder may need one. What cannot be removed is put back at the
+/// next start, and does no harm.
+pub(crate) fn empty_swept<R: Files + AllocGlobal + Clone + Drop>(
     rt: &R,
     alloc: Global,
     folder: &str,
@@ -107,26 +145,7 @@ fn empty_in<R: Files + AllocGlobal + Clone + Drop>(
     let names = swept_names(rt, alloc, folder)?;
     for name in names.iter() {
         let swept = path_of_swept(alloc, folder, *name)?;
-        fs::remove_file(rt, swept.as_str())?;
+        let _removed = fs::remove_file(rt, swept.as_str());
     }
     Ok(())
-}
-
-/// Whether files were swept in the folder of this path, and not let go since. Where that can not be
-/// looked up, it is as if none were.
-pub fn has_swept<R: Files + AllocGlobal + Clone + Drop>(rt: &R, alloc: Global, path: &str) -> bool {
-    match swept_names(rt, alloc, path) {
-        Ok(names) => !names.is_empty(),
-        Err(_) => false,
-    }
-}
-
-/// Lets go of the swept files of the folder of this path, of which no state and no journal in it may
-/// speak as seen. After an `Err` some of them are left.
-pub fn empty_swept<R: Files + AllocGlobal + Clone + Drop>(
-    rt: &R,
-    alloc: Global,
-    path: &str,
-) -> Result<(), FileFault> {
-    told(empty_in(rt, alloc, path))
 }

@@ -1,4 +1,5 @@
 pub mod CountLemmas
+pub mod FactLemmas
 pub mod KeptLemmas
 pub mod LearnLemmas
 pub mod OptionLemmas

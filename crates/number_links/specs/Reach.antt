@@ -1,6 +1,6 @@
 -- What a walk over numbers reaches (own): from some roots on, along links, through numbers that are allowed.
 use Rattle.std.specs.Prelude.{◌≡◌, ◌&&◌, ℕ, Bool, true, false, not, List, None, Contains}
-use Rattle.number_links.specs.Known.{Known, known, linked}
+use Rattle.number_links.specs.Known.{Known, known}
 
 -- a number is reached: it is a root that is allowed, or an allowed one that a reached one leads to
 pub data IsReached (next : ℕ → List ℕ) (allowed : ℕ → Bool) (roots : List ℕ) : ℕ → Type 0 where
@@ -12,5 +12,5 @@ abbrev pub past : (ℕ → Bool) → (ℕ → Bool) → ℕ → Bool
 past allowed hidden n = not (hidden n) && allowed n
 
 -- a number is reached that neither rests nor has known links
-abbrev pub ReachesUnknown : Known → (ℕ → Bool) → (ℕ → Bool) → List ℕ → Type 0
-ReachesUnknown links rests allowed roots = (n : ℕ) × IsReached (linked links) allowed roots n × (rests n ≡ false) × (known links n ≡ None)
+abbrev pub ReachesUnknown : (ℕ → List ℕ) → Known → (ℕ → Bool) → (ℕ → Bool) → List ℕ → Type 0
+ReachesUnknown next links rests allowed roots = (n : ℕ) × IsReached next allowed roots n × (rests n ≡ false) × (known links n ≡ None)

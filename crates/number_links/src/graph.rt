@@ -1,35 +1,41 @@
 ghost use Rattle.std.specs.Prelude.{◌≡◌, ◌≢◌, ◌⊎◌, ◌↔◌, ℕ, List, [], Some, None, true, is_some, IfOk, IfSome, IfNone, OnOk, All, Contains};
+ghost use Rattle.std.specs.Option.{option_map};
 ghost use Rattle.number_sets.specs.Numbers.{has};
+ghost use Rattle.number_links.specs.Facts.{Learned, goes_on, learned, nothing, told};
 ghost use Rattle.number_links.specs.Kept.{IsKept};
-ghost use Rattle.number_links.specs.Known.{RestsOrIsKnown, known, linked};
+ghost use Rattle.number_links.specs.Known.{RestsOrIsKnown, known};
 ghost use Rattle.number_links.specs.Reach.{IsReached, ReachesUnknown};
+ghost use Rattle.number_links.specs.declared.along.Along.TheVariants.{Links as along_links, Parents as along_parents};
 
+use crate::along::{Along, time_beside};
 use crate::keeping::keep_all;
 use crate::kept::{Kept, let_go};
 use crate::links::Links;
 use crate::resting::Resting;
 use crate::taking::reach_all;
+use crate::times::Times;
 use crate::walking::walk;
 use number_sets::NumberSet;
 use std::alloc::{AllocError, Global};
 use std::marker::Model;
 
-/// What numbers lead to, where that is known. All that some of them lead to in the end is kept, so that it
-/// need not be walked again.
+/// The links of numbers, and the times of commits, as far as they are known. For some numbers, the set of all that
+/// they reach is kept, so that it need not be walked again.
 #[derive(Drop)]
 pub struct Graph {
     links: Links,
+    times: Times,
     kept: Vec<Kept>,
 }
 
 impl Model for Graph {
     ghost use Rattle.std.specs.Prelude.{All};
-    ghost use Rattle.number_links.specs.Known.{Known};
+    ghost use Rattle.number_links.specs.Facts.{Facts};
     ghost use Rattle.number_links.specs.Kept.{IsKept};
 
-    ghost Value = { Known };
+    ghost Value = { Facts };
 
-    ghost view = { λ a. a.links };
+    ghost view = { λ a. record { links = a.links; times = a.times } };
 
     ghost invariant = { λ a. All (IsKept a.links) a.kept.items };
 }
@@ -37,37 +43,41 @@ impl Model for Graph {
 impl Graph {
     /// Nothing is known.
     pub fn new(alloc: Global) -> Graph
-        ensures { (n : ℕ) → known result n ≡ None }
+        ensures { (n : ℕ) → learned result n ≡ None }
     {
         Graph {
             links: Links::new(alloc),
+            times: Times::new(alloc),
             kept: Vec::new(alloc),
         }
     }
 
-    /// The links that are known.
-    pub fn links(&self) -> &Links
-        ensures { result.now ≡ self.now }
+    /// The time of a number whose links are known.
+    pub fn time(&self, n: u32) -> Option<u64>
+        ensures { result ≡ option_map (λ one. one.time) (learned self.now n) }
     {
-        &self.links
+        let Some(to) = self.links.of(n) else {
+            return None;
+        };
+        Some(time_beside(to, self.times.at(n)))
     }
 
-    /// Takes note of the numbers that a number leads to, unless they are known. An `Err` tells want of memory,
-    /// or that there are too many links.
-    pub fn learn(&mut self, n: u32, to: &[u32]) -> Result<(), AllocError>
-        ensures only { (q : ℕ) (ms : List ℕ) → known self.new q ≡ Some ms → (known self.old q ≡ Some ms) ⊎ ((q ≡ n) × (ms ≡ to.now)) }
-        ensures ok { OnOk result (is_some (known self.new n) ≡ true) }
-        ensures stays { (q : ℕ) → is_some (known self.old q) ≡ true → known self.new q ≡ known self.old q }
+    /// Learns the links of a number and its time, unless they are known. An `Err` means that there is no memory, or
+    /// that there are too many links.
+    pub fn learn(&mut self, n: u32, to: &[u32], time: u64) -> Result<(), AllocError>
+        ensures only { (q : ℕ) (one : Learned ℕ) → learned self.new q ≡ Some one → (learned self.old q ≡ Some one) ⊎ ((q ≡ n) × (one ≡ told to.now time)) }
+        ensures ok { OnOk result (is_some (learned self.new n) ≡ true) }
+        ensures stays { (q : ℕ) → is_some (learned self.old q) ≡ true → learned self.new q ≡ learned self.old q }
     {
         if self.links.of(n).is_some() {
             return Ok(());
         }
-        self.links.learn(n, to)
+        note(&mut self.links, &mut self.times, n, to, time)
     }
 
-    /// The number comes to be another name's, or nobody's. It takes no memory.
+    /// The number is to be another name's, or nobody's. It allocates nothing.
     pub fn renew(&mut self, n: u32)
-        ensures gone { (q : ℕ) (ms : List ℕ) → known self.new q ≡ Some ms → (known self.old q ≡ Some ms) × (q ≢ n) × (Contains ms n → ⊥) }
+        ensures gone { (q : ℕ) (one : Learned ℕ) → learned self.new q ≡ Some one → (learned self.old q ≡ Some one) × (q ≢ n) × (Contains one.links n → ⊥) }
     {
         let_go(&mut self.kept, n);
         if !self.links.renew(n) {
@@ -75,8 +85,8 @@ impl Graph {
         }
     }
 
-    /// Keeps all that these numbers lead to, the first 8 of them, if all of it is allowed, and known or resting, and if it
-    /// is much. What rests is known to lead to nothing from then on.
+    /// Keeps the sets of all that the first 8 of these numbers reach. A set is kept if all of it is allowed, if all links in it
+    /// are known or rest, and if it is large. A number in it that rests is known to have no links from then on.
     pub fn keep<R: Resting>(
         &mut self,
         alloc: Global,
@@ -84,7 +94,7 @@ impl Graph {
         resting: &R,
         roots: &[u32],
     )
-        ensures only { (q : ℕ) (ms : List ℕ) → known self.new q ≡ Some ms → (known self.old q ≡ Some ms) ⊎ ((ms ≡ []) × (has allowed.now q ≡ true) × (R.rests resting.now q ≡ true)) }
+        ensures only { (q : ℕ) (one : Learned ℕ) → learned self.new q ≡ Some one → (learned self.old q ≡ Some one) ⊎ ((one ≡ nothing) × (has allowed.now q ≡ true) × (R.rests resting.now q ≡ true)) }
     {
         keep_all(
             alloc,
@@ -96,8 +106,8 @@ impl Graph {
         );
     }
 
-    /// The numbers that are reached from the wanted ones and from none of the excluded ones, or `None` where
-    /// one that is reached from either neither rests nor has known links.
+    /// The numbers that the wanted ones reach and the excluded ones do not, or `None` if either reach one that neither
+    /// rests nor has known links.
     pub fn between<R: Resting>(
         &self,
         alloc: Global,
@@ -106,14 +116,39 @@ impl Graph {
         wanted: &[u32],
         excluded: &[u32],
     ) -> Result<Option<NumberSet>, AllocError>
-        ensures found { IfOk result (λ r. IfSome r (λ found. (n : ℕ) → (has found n ≡ true) ↔ (IsReached (linked self.now) (has allowed.now) wanted.now n × (IsReached (linked self.now) (has allowed.now) excluded.now n → ⊥)))) }
-        ensures known { IfOk result (λ r. IfSome r (λ found. (n : ℕ) → IsReached (linked self.now) (has allowed.now) wanted.now n ⊎ IsReached (linked self.now) (has allowed.now) excluded.now n → RestsOrIsKnown self.now (R.rests resting.now) n)) }
-        ensures unknown { IfOk result (λ r. IfNone r (ReachesUnknown self.now (R.rests resting.now) (has allowed.now) wanted.now ⊎ ReachesUnknown self.now (R.rests resting.now) (has allowed.now) excluded.now)) }
+        ensures found { IfOk result (λ r. IfSome r (λ found. (n : ℕ) → (has found n ≡ true) ↔ (IsReached (goes_on along_links self.now) (has allowed.now) wanted.now n × (IsReached (goes_on along_links self.now) (has allowed.now) excluded.now n → ⊥)))) }
+        ensures known { IfOk result (λ r. IfSome r (λ found. (n : ℕ) → IsReached (goes_on along_links self.now) (has allowed.now) wanted.now n ⊎ IsReached (goes_on along_links self.now) (has allowed.now) excluded.now n → RestsOrIsKnown self.now.links (R.rests resting.now) n)) }
+        ensures unknown { IfOk result (λ r. IfNone r (ReachesUnknown (goes_on along_links self.now) self.now.links (R.rests resting.now) (has allowed.now) wanted.now ⊎ ReachesUnknown (goes_on along_links self.now) self.now.links (R.rests resting.now) (has allowed.now) excluded.now)) }
     {
         between(
             alloc,
             &self.links,
+            &self.times,
             self.kept.as_slice(),
+            allowed,
+            resting,
+            wanted,
+            excluded,
+        )
+    }
+
+    /// The same by the parents of commits.
+    pub fn history<R: Resting>(
+        &self,
+        alloc: Global,
+        allowed: &NumberSet,
+        resting: &R,
+        wanted: &[u32],
+        excluded: &[u32],
+    ) -> Result<Option<NumberSet>, AllocError>
+        ensures found { IfOk result (λ r. IfSome r (λ found. (n : ℕ) → (has found n ≡ true) ↔ (IsReached (goes_on along_parents self.now) (has allowed.now) wanted.now n × (IsReached (goes_on along_parents self.now) (has allowed.now) excluded.now n → ⊥)))) }
+        ensures known { IfOk result (λ r. IfSome r (λ found. (n : ℕ) → IsReached (goes_on along_parents self.now) (has allowed.now) wanted.now n ⊎ IsReached (goes_on along_parents self.now) (has allowed.now) excluded.now n → RestsOrIsKnown self.now.links (R.rests resting.now) n)) }
+        ensures unknown { IfOk result (λ r. IfNone r (ReachesUnknown (goes_on along_parents self.now) self.now.links (R.rests resting.now) (has allowed.now) wanted.now ⊎ ReachesUnknown (goes_on along_parents self.now) self.now.links (R.rests resting.now) (has allowed.now) excluded.now)) }
+    {
+        history(
+            alloc,
+            &self.links,
+            &self.times,
             allowed,
             resting,
             wanted,
@@ -122,10 +157,31 @@ impl Graph {
     }
 }
 
-// The numbers that are reached from the wanted ones and from none of the excluded ones.
+// Learns the links of a number and its time.
+fn note(
+    links: &mut Links,
+    times: &mut Times,
+    n: u32,
+    to: &[u32],
+    time: u64,
+) -> Result<(), AllocError>
+    requires { known links.old n ≡ None }
+    ensures only { (q : ℕ) (one : Learned ℕ) → learned (record { links = links.new; times = times.new }) q ≡ Some one → (learned (record { links = links.old; times = times.old }) q ≡ Some one) ⊎ ((q ≡ n) × (one ≡ told to.now time)) }
+    ensures ok { OnOk result (is_some (learned (record { links = links.new; times = times.new }) n) ≡ true) }
+    ensures stays { (q : ℕ) → is_some (learned (record { links = links.old; times = times.old }) q) ≡ true → learned (record { links = links.new; times = times.new }) q ≡ learned (record { links = links.old; times = times.old }) q }
+    ensures kept { (q : ℕ) → is_some (known links.old q) ≡ true → known links.new q ≡ known links.old q }
+{
+    times.reserve(n)?;
+    links.learn(n, to)?;
+    times.put(n, time);
+    Ok(())
+}
+
+// The numbers that the wanted ones reach and the excluded ones do not.
 fn between<R: Resting>(
     alloc: Global,
     links: &Links,
+    times: &Times,
     kept: &[Kept],
     allowed: &NumberSet,
     resting: &R,
@@ -133,13 +189,62 @@ fn between<R: Resting>(
     excluded: &[u32],
 ) -> Result<Option<NumberSet>, AllocError>
     requires { All (IsKept links.now) kept.now }
-    ensures found { IfOk result (λ r. IfSome r (λ found. (n : ℕ) → (has found n ≡ true) ↔ (IsReached (linked links.now) (has allowed.now) wanted.now n × (IsReached (linked links.now) (has allowed.now) excluded.now n → ⊥)))) }
-    ensures known { IfOk result (λ r. IfSome r (λ found. (n : ℕ) → IsReached (linked links.now) (has allowed.now) wanted.now n ⊎ IsReached (linked links.now) (has allowed.now) excluded.now n → RestsOrIsKnown links.now (R.rests resting.now) n)) }
-    ensures unknown { IfOk result (λ r. IfNone r (ReachesUnknown links.now (R.rests resting.now) (has allowed.now) wanted.now ⊎ ReachesUnknown links.now (R.rests resting.now) (has allowed.now) excluded.now)) }
+    ensures found { IfOk result (λ r. IfSome r (λ found. (n : ℕ) → (has found n ≡ true) ↔ (IsReached (goes_on along_links (record { links = links.now; times = times.now })) (has allowed.now) wanted.now n × (IsReached (goes_on along_links (record { links = links.now; times = times.now })) (has allowed.now) excluded.now n → ⊥)))) }
+    ensures known { IfOk result (λ r. IfSome r (λ found. (n : ℕ) → IsReached (goes_on along_links (record { links = links.now; times = times.now })) (has allowed.now) wanted.now n ⊎ IsReached (goes_on along_links (record { links = links.now; times = times.now })) (has allowed.now) excluded.now n → RestsOrIsKnown links.now (R.rests resting.now) n)) }
+    ensures unknown { IfOk result (λ r. IfNone r (ReachesUnknown (goes_on along_links (record { links = links.now; times = times.now })) links.now (R.rests resting.now) (has allowed.now) wanted.now ⊎ ReachesUnknown (goes_on along_links (record { links = links.now; times = times.now })) links.now (R.rests resting.now) (has allowed.now) excluded.now)) }
 {
     let mut count = 0;
     let Some(beyond) = reach_all(alloc, links, kept, allowed, resting, excluded, &mut count)? else {
         return Ok(None);
     };
-    walk(alloc, links, allowed, resting, wanted, &beyond)
+    walk(
+        alloc,
+        links,
+        times,
+        Along::Links,
+        allowed,
+        resting,
+        wanted,
+        &beyond,
+    )
+}
+
+// The same by parents of commits alone.
+fn history<R: Resting>(
+    alloc: Global,
+    links: &Links,
+    times: &Times,
+    allowed: &NumberSet,
+    resting: &R,
+    wanted: &[u32],
+    excluded: &[u32],
+) -> Result<Option<NumberSet>, AllocError>
+    ensures found { IfOk result (λ r. IfSome r (λ found. (n : ℕ) → (has found n ≡ true) ↔ (IsReached (goes_on along_parents (record { links = links.now; times = times.now })) (has allowed.now) wanted.now n × (IsReached (goes_on along_parents (record { links = links.now; times = times.now })) (has allowed.now) excluded.now n → ⊥)))) }
+    ensures known { IfOk result (λ r. IfSome r (λ found. (n : ℕ) → IsReached (goes_on along_parents (record { links = links.now; times = times.now })) (has allowed.now) wanted.now n ⊎ IsReached (goes_on along_parents (record { links = links.now; times = times.now })) (has allowed.now) excluded.now n → RestsOrIsKnown links.now (R.rests resting.now) n)) }
+    ensures unknown { IfOk result (λ r. IfNone r (ReachesUnknown (goes_on along_parents (record { links = links.now; times = times.now })) links.now (R.rests resting.now) (has allowed.now) wanted.now ⊎ ReachesUnknown (goes_on along_parents (record { links = links.now; times = times.now })) links.now (R.rests resting.now) (has allowed.now) excluded.now)) }
+{
+    let none = NumberSet::new(alloc);
+    let Some(beyond) = walk(
+        alloc,
+        links,
+        times,
+        Along::Parents,
+        allowed,
+        resting,
+        excluded,
+        &none,
+    )?
+    else {
+        return Ok(None);
+    };
+    walk(
+        alloc,
+        links,
+        times,
+        Along::Parents,
+        allowed,
+        resting,
+        wanted,
+        &beyond,
+    )
 }

@@ -1,4 +1,4 @@
-// Keeping what numbers lead to.
+// Keeps the sets of all that numbers reach.
 ghost use Rattle.std.specs.Prelude.{◌≡◌, ◌⊎◌, ℕ, List, [], Some, All, true};
 ghost use Rattle.number_sets.specs.Numbers.{has};
 ghost use Rattle.number_links.specs.Kept.{IsKept};
@@ -12,13 +12,13 @@ use crate::taking::reach_all;
 use number_sets::NumberSet;
 use std::alloc::Global;
 
-// What takes fewer steps to find is not worth being kept.
+// A set that takes fewer steps to find is not kept.
 const FEW: usize = 4096;
 
-// How many numbers are kept of a list at the most.
+// For at most so many numbers of a list the set is kept.
 const MOST_ROOTS: usize = 8;
 
-// Keeps all that a number leads to.
+// Keeps the set of all that a number reaches.
 fn keep_one<R: Resting>(
     alloc: Global,
     links: &mut Links,
@@ -55,7 +55,7 @@ fn keep_one<R: Resting>(
     put(kept, Kept { root, reached });
 }
 
-// The same of each of these numbers, the first of them.
+// The same for each of the first of these numbers.
 pub(crate) fn keep_all<R: Resting>(
     alloc: Global,
     links: &mut Links,

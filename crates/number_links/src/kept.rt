@@ -1,4 +1,4 @@
-// Sets of all that a number leads to, which are kept so that a walk need not find it again.
+// Kept sets of all that a number reaches, so that a walk need not find them again.
 ghost use Rattle.std.specs.Prelude.{◌≡◌, [], ◌∷◌, ℕ, All, IfSome, false, true};
 ghost use Rattle.number_sets.specs.Numbers.{has};
 ghost use Rattle.number_links.specs.Kept.{IsAllLedTo, IsKept};
@@ -6,10 +6,10 @@ ghost use Rattle.number_links.specs.Known.{Known};
 
 use number_sets::NumberSet;
 
-// How many sets are kept.
+// The largest number of kept sets.
 const MOST: usize = 16;
 
-// All that a number leads to, itself among it.
+// All that a number reaches, with the number itself.
 #[derive(Drop)]
 pub(crate) struct Kept {
     pub(crate) root: u32,
@@ -27,7 +27,7 @@ fn serves(one: &Kept, allowed: &NumberSet, root: u32) -> bool
     one.reached.is_within(allowed)
 }
 
-// The set of all that this number leads to, if it is kept and all of it is allowed.
+// The set of all that this number reaches, if it is kept and all of it is allowed.
 pub(crate) fn find<'a>(kept: &'a [Kept], allowed: &NumberSet, root: u32) -> Option<&'a NumberSet>
     ensures { (links : Known) → All (IsKept links) kept.now → IfSome result (λ reached. IsAllLedTo links (root ∷ []) (has reached.now) × ((n : ℕ) → has reached.now n ≡ true → has allowed.now n ≡ true)) }
 {
@@ -39,7 +39,7 @@ pub(crate) fn find<'a>(kept: &'a [Kept], allowed: &NumberSet, root: u32) -> Opti
     None
 }
 
-// Lets go of the first set, if no more may be kept.
+// Drops the first set, if no more may be kept.
 fn make_room(kept: &mut Vec<Kept>)
     ensures { (links : Known) → All (IsKept links) kept.old.items → All (IsKept links) kept.new.items }
 {
@@ -49,7 +49,7 @@ fn make_room(kept: &mut Vec<Kept>)
     kept.remove(0);
 }
 
-// Keeps one more set. If there is no memory, it is let go.
+// Keeps one more set. If there is no memory, the set is dropped.
 pub(crate) fn put(kept: &mut Vec<Kept>, one: Kept)
     ensures { (links : Known) → All (IsKept links) kept.old.items → IsKept links one → All (IsKept links) kept.new.items }
 {
@@ -59,7 +59,7 @@ pub(crate) fn put(kept: &mut Vec<Kept>, one: Kept)
     };
 }
 
-// Lets go of the sets that have a number.
+// Drops the sets that contain a number.
 pub(crate) fn let_go(kept: &mut Vec<Kept>, n: u32)
     ensures { (links : Known) → All (IsKept links) kept.old.items → All (λ one. IsKept links one × (has one.reached n ≡ false)) kept.new.items }
 {

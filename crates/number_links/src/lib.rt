@@ -1,7 +1,8 @@
-//! Numbers that lead to numbers, where that is known, and walks along them. A walk reads nothing, and goes
-//! through no number that it is not allowed to.
+//! Links from numbers to numbers, as far as they are known, and walks by them. A walk reads no object, and visits
+//! only numbers that are allowed.
 #![tactic(auto)]
 
+mod along;
 mod graph;
 mod keeping;
 mod kept;
@@ -13,8 +14,10 @@ mod records;
 mod resting;
 mod settling;
 mod taking;
+mod times;
 mod walking;
 
+pub use crate::along::Along;
 pub use crate::graph::Graph;
 pub use crate::links::Links;
 pub use crate::resting::Resting;

@@ -8,18 +8,18 @@ use crate::records::{UNKNOWN, read, words, write};
 use std::alloc::{AllocError, Global};
 use std::marker::Model;
 
-/// By number the numbers that each leads to, where that is known. What is known of a number is forgotten
-/// once the number, or one that it leads to, is renewed.
+/// The links of each number, as far as they are known. The links of a number are forgotten as soon as the number, or
+/// one that it links to, is renewed.
 #[derive(Drop)]
 pub struct Links {
     // How often numbers were renewed.
     clock: u32,
-    // By number the clock when it was last renewed, 0 after the end.
+    // For each number, the clock when it was last renewed; 0 after the end of the list.
     renewed: Vec<u32>,
-    // By number the place of its record in the pool.
+    // For each number, the place of its record in the pool.
     begins: Vec<u32>,
     pool: Vec<u32>,
-    // How many words of the pool belong to records that were let go, about.
+    // About how many words of the pool belong to records that are not known any more.
     gone: usize,
 }
 
@@ -49,7 +49,7 @@ impl Links {
         }
     }
 
-    /// The numbers that a number leads to, if they are known.
+    /// The links of a number, if they are known.
     pub fn of(&self, n: u32) -> Option<&[u32]>
         ensures some { IfSome result (λ to. known self.now n ≡ Some to.now) }
         ensures none { IfNone result (known self.now n ≡ None) }
@@ -58,8 +58,8 @@ impl Links {
         read(&self.renewed, &self.pool, begin)
     }
 
-    /// Takes note of the numbers that a number leads to, in place of what was known of it. An `Err` tells
-    /// want of memory, or that the pool has 2^32 - 2 words.
+    /// Learns the links of a number, replacing what was known of it. An `Err` means that there is no memory, or that the
+    /// pool has 2^32 - 2 words.
     pub fn learn(&mut self, n: u32, to: &[u32]) -> Result<(), AllocError>
         ensures only { (q : ℕ) (ms : List ℕ) → known self.new q ≡ Some ms → (known self.old q ≡ Some ms) ⊎ ((q ≡ n) × (ms ≡ to.now)) }
         ensures ok { OnOk result (known self.new n ≡ Some to.now) }
@@ -70,8 +70,8 @@ impl Links {
         self.note(n, to)
     }
 
-    /// The number comes to be another name's, or nobody's. It takes no memory. Answers whether all else that
-    /// was known still is.
+    /// The number is to be another name's, or nobody's. It allocates nothing. Returns whether everything else that was
+    /// known still is.
     pub fn renew(&mut self, n: u32) -> bool
         ensures gone { (q : ℕ) (ms : List ℕ) → known self.new q ≡ Some ms → (known self.old q ≡ Some ms) × (q ≢ n) × (Contains ms n → ⊥) }
         ensures stays { result ≡ true → (q : ℕ) (ms : List ℕ) → known self.old q ≡ Some ms → q ≢ n → (Contains ms n → ⊥) → known self.new q ≡ Some ms }
@@ -92,7 +92,7 @@ impl Links {
         true
     }
 
-    // Notes what a number leads to, with the pool as it is.
+    // Learns the links of a number, with the pool as it is.
     fn note(&mut self, n: u32, to: &[u32]) -> Result<(), AllocError>
         ensures ok { OnOk result (known self.new n ≡ Some to.now) }
         ensures stays { (q : ℕ) → q ≢ n → known self.new q ≡ known self.old q }
@@ -112,8 +112,8 @@ impl Links {
         Ok(())
     }
 
-    // Where more than half of the pool is gone, makes it anew of the records that are known. Where memory
-    // is short, it stays.
+    // If more than half of the pool is unused, rebuilds it from the records that are known. If there is no memory, it
+    // stays.
     fn pack_if_sparse(&mut self)
         ensures { (q : ℕ) → known self.new q ≡ known self.old q }
     {
@@ -142,8 +142,8 @@ impl Links {
     }
 }
 
-// Writes a number's record at the end of the pool, and sees to it that there is a place for the number and
-// for when those that it leads to are renewed.
+// Writes a number's record at the end of the pool, and makes the lists long enough for the number and for those that
+// it links to.
 fn enter(
     clock: u32,
     renewed: &mut Vec<u32>,

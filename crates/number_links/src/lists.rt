@@ -1,4 +1,4 @@
-// Lists of words by number, in which a number after the end has a word by default.
+// Lists of words by number. A number after the end has a default word.
 ghost use Rattle.std.specs.Prelude.{◌≡◌, ◌<◌, ◌≤◌, ℕ, All, OnOk, get_or, set, length};
 
 use std::alloc::AllocError;
@@ -25,7 +25,7 @@ pub(crate) fn put(words: &mut Vec<u32>, n: u32, word: u32)
     words[at] = word;
 }
 
-// Sees to it that a number is in the list. No word changes.
+// Makes the list long enough for a number. No word changes.
 pub(crate) fn lengthen(words: &mut Vec<u32>, n: u32, default: u32) -> Result<(), AllocError>
     ensures words { (i : ℕ) → get_or words.new.items i default ≡ get_or words.old.items i default }
     ensures ok { OnOk result (n < length words.new.items) }

@@ -6,8 +6,8 @@ ghost use Rattle.number_links.specs.Seeing.{Sees};
 use number_sets::NumberSet;
 use std::alloc::AllocError;
 
-// Notes a number as seen, and as one that waits, where it is allowed, not hidden, and was not seen yet.
-// Most numbers of a walk were seen, so that is asked first.
+// Marks a number as seen, and has it wait, if it is allowed, not hidden, and not seen yet. Most numbers of a walk
+// were seen, so that is tested first.
 pub(crate) fn note(
     allowed: &NumberSet,
     hidden: &NumberSet,
@@ -32,7 +32,7 @@ pub(crate) fn note(
     Ok(())
 }
 
-// The same of each of these.
+// The same for each of these.
 pub(crate) fn note_all(
     allowed: &NumberSet,
     hidden: &NumberSet,

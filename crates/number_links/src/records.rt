@@ -1,17 +1,17 @@
-// A pool of records, each of the time when it was learned, the count of its numbers and these.
+// A pool of records. Each has the clock when it was learned, the count of its numbers, and the numbers.
 ghost use Rattle.std.specs.Prelude.{◌≡◌, ◌≢◌, ◌≤◌, ◌+◌, Some, None, IfOk, IfSome, IfNone, OnErr, get_or, length};
 ghost use Rattle.number_links.specs.Records.{IsWritten, are_still, told};
 
 use crate::lists::get;
 use std::alloc::AllocError;
 
-// The place of no record.
+// The place that stands for no record.
 pub(crate) const UNKNOWN: u32 = 4294967295;
 
-// The place of each record that has no numbers.
+// The place that stands for every record without numbers.
 pub(crate) const EMPTY: u32 = 4294967294;
 
-// Writes a record at the end, and gives its place.
+// Writes a record at the end, and returns its place.
 pub(crate) fn write(pool: &mut Vec<u32>, clock: u32, to: &[u32]) -> Result<u32, AllocError>
     requires { length pool.old.items ≤ 4294967294 }
     ensures ok { IfOk result (λ begin. IsWritten clock to.now pool.old.items pool.new.items begin) }
@@ -31,7 +31,7 @@ pub(crate) fn write(pool: &mut Vec<u32>, clock: u32, to: &[u32]) -> Result<u32, 
     Ok(begin as u32)
 }
 
-// What the record at a place tells.
+// The record at a place.
 pub(crate) fn read<'a>(renewed: &[u32], pool: &'a [u32], begin: u32) -> Option<&'a [u32]>
     requires { begin ≢ 4294967295 → begin ≢ 4294967294 → begin + 2 + get_or pool.now (begin + 1) 0 ≤ length pool.now }
     ensures some { IfSome result (λ to. told renewed.now pool.now begin ≡ Some to.now) }
@@ -52,7 +52,7 @@ pub(crate) fn read<'a>(renewed: &[u32], pool: &'a [u32], begin: u32) -> Option<&
     Some(to)
 }
 
-// Whether none of these was renewed after a time.
+// Whether none of these was renewed after a clock.
 fn is_still(renewed: &[u32], learned: u32, numbers: &[u32]) -> bool
     ensures { result ≡ are_still renewed.now learned numbers.now }
 {

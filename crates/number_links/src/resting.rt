@@ -1,6 +1,6 @@
 ghost use Rattle.std.specs.Prelude.{◌≡◌, ℕ, Bool};
 
-/// Numbers that lead to nothing, so that nothing needs to be known of them.
+/// Numbers that have no links, so nothing needs to be learned of them.
 pub trait Resting {
     /// Whether a number is one of them.
     ghost rests: { Self → ℕ → Bool };

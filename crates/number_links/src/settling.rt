@@ -1,4 +1,4 @@
-// Sees to it that what some numbers lead to is known, and is among them.
+// Makes the links of a set's numbers known, and tests that they are in the set.
 ghost use Rattle.std.specs.Prelude.{◌≡◌, ◌⊎◌, ◌<◌, ℕ, List, [], Some, None, true, is_some, Contains};
 ghost use Rattle.number_sets.specs.Numbers.{has};
 ghost use Rattle.number_links.specs.Known.{known, linked};
@@ -18,8 +18,8 @@ fn has_all(numbers: &NumberSet, these: &[u32]) -> bool
     true
 }
 
-// What a number leads to is in a set. If nothing is known of the number, it is known to lead to nothing from
-// now on.
+// Whether the links of a number are in a set. If nothing is known of the number, it is known to have no links from
+// then on.
 fn settle_one(links: &mut Links, numbers: &NumberSet, n: u32) -> bool
     ensures stays { (q : ℕ) → is_some (known links.old q) ≡ true → known links.new q ≡ known links.old q }
     ensures only { (q : ℕ) (ms : List ℕ) → known links.new q ≡ Some ms → (known links.old q ≡ Some ms) ⊎ ((q ≡ n) × (ms ≡ []) × (known links.old q ≡ None)) }
@@ -32,7 +32,7 @@ fn settle_one(links: &mut Links, numbers: &NumberSet, n: u32) -> bool
     links.learn(n, &[]).is_ok()
 }
 
-// The same of each number of the set.
+// The same for each number of the set.
 pub(crate) fn settle(links: &mut Links, numbers: &NumberSet) -> bool
     ensures stays { (q : ℕ) → is_some (known links.old q) ≡ true → known links.new q ≡ known links.old q }
     ensures only { (q : ℕ) (ms : List ℕ) → known links.new q ≡ Some ms → (known links.old q ≡ Some ms) ⊎ ((has numbers.now q ≡ true) × (ms ≡ []) × (known links.old q ≡ None)) }

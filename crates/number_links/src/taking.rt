@@ -1,4 +1,4 @@
-// A walk that takes what is kept whole.
+// A walk that takes kept sets whole.
 ghost use Rattle.std.specs.Prelude.{◌≡◌, ◌||◌, ℕ, All, None, false, true, IfOk, IfSome, IfNone, OnOk};
 ghost use Rattle.number_sets.specs.Numbers.{has};
 ghost use Rattle.number_links.specs.Kept.{IsKept};
@@ -13,7 +13,7 @@ use crate::walking::next;
 use number_sets::NumberSet;
 use std::alloc::{AllocError, Global};
 
-// Puts all numbers of another set into one.
+// Adds all numbers of another set.
 fn take(seen: &mut NumberSet, set: &NumberSet) -> Result<(), AllocError>
     ensures { OnOk result ((n : ℕ) → has seen.new n ≡ (has seen.old n || has set.now n)) }
 {
@@ -22,9 +22,8 @@ fn take(seen: &mut NumberSet, set: &NumberSet) -> Result<(), AllocError>
     Ok(())
 }
 
-// The numbers that are reached from the roots, through none that is not allowed, or `None` where one of them neither
-// rests nor has known links. If a number is met of which all that it leads to is kept, that is taken whole. Each
-// other one is followed once, and counted.
+// The numbers that the roots reach through allowed ones, or `None` if one of them neither rests nor has known links. If
+// the set of a number is kept, it is taken whole. Each other number is followed once, and counted.
 pub(crate) fn reach_all<R: Resting>(
     alloc: Global,
     links: &Links,
@@ -38,7 +37,7 @@ pub(crate) fn reach_all<R: Resting>(
     ensures only { IfOk result (λ r. IfSome r (λ found. (n : ℕ) → has found n ≡ true → IsReached (linked links.now) (has allowed.now) roots.now n)) }
     ensures all { IfOk result (λ r. IfSome r (λ found. (n : ℕ) → IsReached (linked links.now) (has allowed.now) roots.now n → has found n ≡ true)) }
     ensures known { IfOk result (λ r. IfSome r (λ found. (n : ℕ) → has found n ≡ true → RestsOrIsKnown links.now (R.rests resting.now) n)) }
-    ensures unknown { IfOk result (λ r. IfNone r (ReachesUnknown links.now (R.rests resting.now) (has allowed.now) roots.now)) }
+    ensures unknown { IfOk result (λ r. IfNone r (ReachesUnknown (linked links.now) links.now (R.rests resting.now) (has allowed.now) roots.now)) }
 {
     let none = NumberSet::new(alloc);
     let mut seen = NumberSet::new(alloc);

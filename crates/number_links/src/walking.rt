@@ -1,39 +1,62 @@
 ghost use Rattle.std.specs.Prelude.{◌≡◌, ◌⊎◌, ◌↔◌, ℕ, None, true, false, IfOk, IfSome, IfNone};
 ghost use Rattle.number_sets.specs.Numbers.{has};
+ghost use Rattle.number_links.specs.Facts.{goes_on};
 ghost use Rattle.number_links.specs.Known.{RestsOrIsKnown, known, linked};
 ghost use Rattle.number_links.specs.Reach.{IsReached, ReachesUnknown, past};
 
+use crate::along::{Along, goes_from};
 use crate::links::Links;
 use crate::noting::note_all;
 use crate::resting::Resting;
+use crate::times::Times;
 use number_sets::NumberSet;
 use std::alloc::{AllocError, Global};
 
-// The numbers that are reached from the roots, through none that is hidden or not allowed, or `None`
-// where one of them neither rests nor has known links. Each is followed once.
+// The numbers that the roots reach through ones that are allowed and not hidden, or `None` if one of them neither rests
+// nor has known links. Each is followed once.
 pub(crate) fn walk<R: Resting>(
     alloc: Global,
     links: &Links,
+    times: &Times,
+    along: Along,
     allowed: &NumberSet,
     resting: &R,
     roots: &[u32],
     hidden: &NumberSet,
 ) -> Result<Option<NumberSet>, AllocError>
-    ensures only { IfOk result (λ r. IfSome r (λ found. (n : ℕ) → has found n ≡ true → IsReached (linked links.now) (past (has allowed.now) (has hidden.now)) roots.now n)) }
-    ensures all { IfOk result (λ r. IfSome r (λ found. (n : ℕ) → IsReached (linked links.now) (past (has allowed.now) (has hidden.now)) roots.now n → has found n ≡ true)) }
+    ensures only { IfOk result (λ r. IfSome r (λ found. (n : ℕ) → has found n ≡ true → IsReached (goes_on along (record { links = links.now; times = times.now })) (past (has allowed.now) (has hidden.now)) roots.now n)) }
+    ensures all { IfOk result (λ r. IfSome r (λ found. (n : ℕ) → IsReached (goes_on along (record { links = links.now; times = times.now })) (past (has allowed.now) (has hidden.now)) roots.now n → has found n ≡ true)) }
     ensures known { IfOk result (λ r. IfSome r (λ found. (n : ℕ) → has found n ≡ true → RestsOrIsKnown links.now (R.rests resting.now) n)) }
-    ensures unknown { IfOk result (λ r. IfNone r (ReachesUnknown links.now (R.rests resting.now) (past (has allowed.now) (has hidden.now)) roots.now)) }
+    ensures unknown { IfOk result (λ r. IfNone r (ReachesUnknown (goes_on along (record { links = links.now; times = times.now })) links.now (R.rests resting.now) (past (has allowed.now) (has hidden.now)) roots.now)) }
 {
     let mut seen = NumberSet::new(alloc);
     let mut waiting = Vec::new(alloc);
     note_all(allowed, hidden, roots, &mut seen, &mut waiting)?;
     'waiting: while let Some(n) = waiting.pop() {
-        let Some(to) = next(links, resting, n) else {
+        let Some(to) = follow(links, times, along, resting, n) else {
             return Ok(None);
         };
         note_all(allowed, hidden, to, &mut seen, &mut waiting)?;
     }
     Ok(Some(seen))
+}
+
+// What a walk goes on to from a number, if that rests or what it leads to is known.
+fn follow<'a, R: Resting>(
+    links: &'a Links,
+    times: &Times,
+    along: Along,
+    resting: &R,
+    n: u32,
+) -> Option<&'a [u32]>
+    ensures some { IfSome result (λ to. goes_on along (record { links = links.now; times = times.now }) n ≡ to.now) }
+    ensures known { IfSome result (λ to. RestsOrIsKnown links.now (R.rests resting.now) n) }
+    ensures none { IfNone result ((R.rests resting.now n ≡ false) × (known links.now n ≡ None)) }
+{
+    let Some(to) = next(links, resting, n) else {
+        return None;
+    };
+    Some(goes_from(times, along, to, n))
 }
 
 // What a number leads to, if it rests or that is known.

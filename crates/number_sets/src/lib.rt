@@ -1,5 +1,5 @@
-//! Sets of small numbers, a bit each, in pages that are there only where a number was to come.
-//! Contracts ask a set number by number, and what may take memory changes no set.
+//! Sets of small numbers, one bit for each, in pages that are allocated only for numbers that are to be added.
+//! Contracts test a set number by number. A call that may allocate does not change the set.
 #![tactic(auto)]
 
 mod number_set;

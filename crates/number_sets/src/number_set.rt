@@ -6,8 +6,8 @@ use crate::slot;
 use std::alloc::{AllocError, Global};
 use std::marker::Model;
 
-/// Numbers, a bit each. 4,096 of them share a page, and a page in which none was to come takes no more than
-/// a pointer.
+/// A set of numbers, one bit for each. 4,096 numbers share a page. A page that no number needed takes only a
+/// pointer.
 #[derive(Drop)]
 pub struct NumberSet {
     pages: Vec<Option<Page>>,
@@ -25,7 +25,7 @@ impl Model for NumberSet {
 }
 
 impl NumberSet {
-    /// No numbers.
+    /// The empty set.
     pub fn new(alloc: Global) -> NumberSet
         ensures has { (q : ℕ) → has result q ≡ false }
         ensures room { (q : ℕ) → has_room result q ≡ false }
@@ -46,7 +46,7 @@ impl NumberSet {
         slot::contains(&self.pages[at], n % 4096)
     }
 
-    /// Sees to it that a number has room. The set stays as it is.
+    /// Reserves room for a number. The set does not change.
     pub fn reserve(&mut self, n: u32) -> Result<(), AllocError>
         ensures has { (q : ℕ) → has self.new q ≡ has self.old q }
         ensures ok { OnOk result (has_room self.new n ≡ true) }
@@ -59,7 +59,7 @@ impl NumberSet {
         slot::fill(alloc, &mut self.pages[at])
     }
 
-    /// Sees to it that each number of another set has room. The set stays as it is.
+    /// Reserves room for each number of another set. The set does not change.
     pub fn reserve_all(&mut self, other: &NumberSet) -> Result<(), AllocError>
         ensures has { (q : ℕ) → has self.new q ≡ has self.old q }
         ensures ok { OnOk result (HasRoomOf other.now self.new) }
@@ -71,7 +71,7 @@ impl NumberSet {
         Ok(())
     }
 
-    /// Puts a number into the set. It takes no memory.
+    /// Adds a number. It allocates nothing.
     pub fn insert(&mut self, n: u32)
         requires { has_room self.old n ≡ true }
         ensures has { (q : ℕ) → has self.new q ≡ (nat_eq q n || has self.old q) }
@@ -80,7 +80,7 @@ impl NumberSet {
         slot::insert(&mut self.pages[n as usize / 4096], n % 4096);
     }
 
-    /// Takes a number out of the set.
+    /// Removes a number.
     pub fn remove(&mut self, n: u32)
         ensures has { (q : ℕ) → has self.new q ≡ (not (nat_eq q n) && has self.old q) }
         ensures room { (q : ℕ) → has_room self.new q ≡ has_room self.old q }
@@ -92,7 +92,7 @@ impl NumberSet {
         slot::remove(&mut self.pages[at], n % 4096);
     }
 
-    /// Puts each number of another set in. It takes no memory.
+    /// Adds each number of another set. It allocates nothing.
     pub fn unite(&mut self, other: &NumberSet)
         requires { HasRoomOf other.now self.old }
         ensures has { (q : ℕ) → has self.new q ≡ (has self.old q || has other.now q) }
@@ -103,7 +103,7 @@ impl NumberSet {
         }
     }
 
-    /// Takes each number of another set out.
+    /// Removes each number of another set.
     pub fn subtract(&mut self, other: &NumberSet)
         ensures has { (q : ℕ) → has self.new q ≡ (not (has other.now q) && has self.old q) }
         ensures room { (q : ℕ) → has_room self.new q ≡ has_room self.old q }
@@ -113,8 +113,8 @@ impl NumberSet {
         }
     }
 
-    /// Whether each number of the set is in another one. It may answer `false` where it is so, if the set has
-    /// a page in which no number is left.
+    /// Whether each number of the set is in another one. It may return `false` for a subset, if the set has a page
+    /// from which all numbers were removed.
     pub fn is_within(&self, other: &NumberSet) -> bool
         ensures { result ≡ true → (q : ℕ) → has self.now q ≡ true → has other.now q ≡ true }
     {
@@ -132,7 +132,7 @@ impl NumberSet {
         true
     }
 
-    /// Takes all numbers out, and gives their room back.
+    /// Removes all numbers, and frees their pages.
     pub fn clear(&mut self)
         ensures has { (q : ℕ) → has self.new q ≡ false }
         ensures room { (q : ℕ) → has_room self.new q ≡ false }
@@ -141,7 +141,7 @@ impl NumberSet {
         self.pages.shrink_to_fit();
     }
 
-    /// The first number of the set at this one or after it.
+    /// The smallest number of the set that is at least this one.
     pub fn next(&self, from: u32) -> Option<u32>
         ensures some { IfSome result (λ n. (from ≤ n) × (has self.now n ≡ true)) }
         ensures first { IfSome result (λ n. (q : ℕ) → from ≤ q → q < n → has self.now q ≡ false) }
@@ -159,7 +159,7 @@ impl NumberSet {
     }
 }
 
-// Sees to it that there is this place of a page.
+// Makes the list of pages long enough for this page.
 fn lengthen(pages: &mut Vec<Option<Page>>, at: usize) -> Result<(), AllocError>
     requires { at < 1048576 }
     ensures slots { (i : ℕ) → get_or pages.new.items i None ≡ get_or pages.old.items i None }
@@ -172,7 +172,7 @@ fn lengthen(pages: &mut Vec<Option<Page>>, at: usize) -> Result<(), AllocError>
     Ok(())
 }
 
-// Sees to it that there is a page at this place, if another place has one. No number comes.
+// Allocates the page at this place, if another place has one. No number is added.
 fn fill_at(
     alloc: Global,
     pages: &mut Vec<Option<Page>>,

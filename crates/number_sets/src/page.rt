@@ -6,7 +6,7 @@ use std::alloc::{AllocError, Global};
 use std::boxed::Box;
 use std::marker::Model;
 
-// 4,096 numbers in a row, a bit each.
+// 4,096 consecutive numbers, one bit for each.
 #[derive(Drop)]
 pub(crate) struct Page {
     words: Box<[u64; 64]>,
@@ -31,7 +31,7 @@ impl Page {
         Ok(Page { words })
     }
 
-    // Whether a number is there.
+    // Whether a number is in the page.
     pub(crate) fn contains(&self, k: u32) -> bool
         requires { k < 4096 }
         ensures { result ≡ is_in self.now k }
@@ -39,7 +39,7 @@ impl Page {
         is_set(self.words[k as usize / 64], k % 64)
     }
 
-    // Puts a number in.
+    // Adds a number.
     pub(crate) fn insert(&mut self, k: u32)
         requires { k < 4096 }
         ensures { (q : ℕ) → is_in self.new q ≡ (nat_eq q k || is_in self.old q) }
@@ -48,7 +48,7 @@ impl Page {
         self.words[at] = with_bit(self.words[at], k % 64);
     }
 
-    // Takes a number out.
+    // Removes a number.
     pub(crate) fn remove(&mut self, k: u32)
         requires { k < 4096 }
         ensures { (q : ℕ) → is_in self.new q ≡ (not (nat_eq q k) && is_in self.old q) }
@@ -57,7 +57,7 @@ impl Page {
         self.words[at] = without_bit(self.words[at], k % 64);
     }
 
-    // Puts the numbers of another page in.
+    // Adds the numbers of another page.
     pub(crate) fn unite(&mut self, other: &Page)
         ensures { (q : ℕ) → is_in self.new q ≡ (is_in self.old q || is_in other.now q) }
     {
@@ -66,7 +66,7 @@ impl Page {
         }
     }
 
-    // Takes the numbers of another page out.
+    // Removes the numbers of another page.
     pub(crate) fn subtract(&mut self, other: &Page)
         ensures { (q : ℕ) → is_in self.new q ≡ (not (is_in other.now q) && is_in self.old q) }
     {
@@ -87,7 +87,7 @@ impl Page {
         true
     }
 
-    // The first number at one or after it.
+    // The smallest number that is at least this one.
     pub(crate) fn next(&self, from: u32) -> Option<u32>
         ensures some { IfSome result (λ k. (k < 4096) × (from ≤ k) × (is_in self.now k ≡ true)) }
         ensures first { IfSome result (λ k. (q : ℕ) → from ≤ q → q < k → is_in self.now q ≡ false) }

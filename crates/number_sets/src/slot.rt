@@ -1,11 +1,11 @@
-// Places of pages, each of which may have one.
+// Slots, each of which may have a page.
 ghost use Rattle.std.specs.Prelude.{◌≡◌, ◌<◌, ◌≤◌, ℕ, ◌||◌, ◌&&◌, not, nat_eq, false, true, is_some, OnOk, IfSome, IfNone};
 ghost use Rattle.number_sets.specs.Numbers.{is_there};
 
 use crate::page::Page;
 use std::alloc::{AllocError, Global};
 
-// Whether a number is there.
+// Whether a number is in the slot's page.
 pub(crate) fn contains(slot: &Option<Page>, k: u32) -> bool
     requires { k < 4096 }
     ensures { result ≡ is_there slot.now k }
@@ -16,7 +16,7 @@ pub(crate) fn contains(slot: &Option<Page>, k: u32) -> bool
     page.contains(k)
 }
 
-// Sees to it that there is a page. No number comes.
+// Allocates a page, unless there is one. No number is added.
 pub(crate) fn fill(alloc: Global, slot: &mut Option<Page>) -> Result<(), AllocError>
     ensures numbers { (q : ℕ) → is_there slot.new q ≡ is_there slot.old q }
     ensures ok { OnOk result (is_some slot.new ≡ true) }
@@ -30,7 +30,7 @@ pub(crate) fn fill(alloc: Global, slot: &mut Option<Page>) -> Result<(), AllocEr
     Ok(())
 }
 
-// The same where another place has a page.
+// The same, if another slot has a page.
 pub(crate) fn fill_like(
     alloc: Global,
     slot: &mut Option<Page>,
@@ -46,7 +46,7 @@ pub(crate) fn fill_like(
     fill(alloc, slot)
 }
 
-// Puts a number in.
+// Adds a number.
 pub(crate) fn insert(slot: &mut Option<Page>, k: u32)
     requires page { is_some slot.old ≡ true }
     requires small { k < 4096 }
@@ -59,7 +59,7 @@ pub(crate) fn insert(slot: &mut Option<Page>, k: u32)
     page.insert(k);
 }
 
-// Takes a number out.
+// Removes a number.
 pub(crate) fn remove(slot: &mut Option<Page>, k: u32)
     requires { k < 4096 }
     ensures numbers { (q : ℕ) → is_there slot.new q ≡ (not (nat_eq q k) && is_there slot.old q) }
@@ -71,7 +71,7 @@ pub(crate) fn remove(slot: &mut Option<Page>, k: u32)
     page.remove(k);
 }
 
-// Puts the numbers of another page in.
+// Adds the numbers of another slot.
 pub(crate) fn unite(slot: &mut Option<Page>, other: &Option<Page>)
     requires { is_some other.now ≡ true → is_some slot.old ≡ true }
     ensures numbers { (q : ℕ) → is_there slot.new q ≡ (is_there slot.old q || is_there other.now q) }
@@ -86,7 +86,7 @@ pub(crate) fn unite(slot: &mut Option<Page>, other: &Option<Page>)
     page.unite(other);
 }
 
-// Takes the numbers of another page out.
+// Removes the numbers of another slot.
 pub(crate) fn subtract(slot: &mut Option<Page>, other: &Option<Page>)
     ensures numbers { (q : ℕ) → is_there slot.new q ≡ (not (is_there other.now q) && is_there slot.old q) }
     ensures page { is_some slot.new ≡ is_some slot.old }
@@ -100,7 +100,7 @@ pub(crate) fn subtract(slot: &mut Option<Page>, other: &Option<Page>)
     page.subtract(other);
 }
 
-// Whether each number is in another place's page. A page is taken to have numbers.
+// Whether each number is in another slot's page. A page counts as not empty.
 pub(crate) fn is_within(slot: &Option<Page>, other: &Option<Page>) -> bool
     ensures { result ≡ true → (q : ℕ) → is_there slot.now q ≡ true → is_there other.now q ≡ true }
 {
@@ -113,7 +113,7 @@ pub(crate) fn is_within(slot: &Option<Page>, other: &Option<Page>) -> bool
     page.is_within(other)
 }
 
-// The first number at one or after it.
+// The smallest number that is at least this one.
 pub(crate) fn next(slot: &Option<Page>, from: u32) -> Option<u32>
     ensures some { IfSome result (λ k. (k < 4096) × (from ≤ k) × (is_there slot.now k ≡ true)) }
     ensures first { IfSome result (λ k. (q : ℕ) → from ≤ q → q < k → is_there slot.now q ≡ false) }

@@ -24,14 +24,14 @@ pub(crate) fn either(a: u64, b: u64) -> u64
     a | b
 }
 
-// The bits of the first that the second has not.
+// The bits of the first that the second does not have.
 pub(crate) fn less(a: u64, b: u64) -> u64
     ensures { (q : ℕ) → has_bit result q ≡ (not (has_bit b q) && has_bit a q) }
 {
     a ^ (a & b)
 }
 
-// Whether a word has no bit that another one has not.
+// Whether a word has only bits that another one has.
 pub(crate) fn is_part(a: u64, b: u64) -> bool
     ensures { result ≡ true → (q : ℕ) → has_bit a q ≡ true → has_bit b q ≡ true }
 {
@@ -46,7 +46,7 @@ pub(crate) fn is_set(word: u64, k: u32) -> bool
     word >> k & 1 == 1
 }
 
-// The first bit of a word at one or after it.
+// The lowest bit of a word that is at least this one.
 pub(crate) fn next_bit(word: u64, from: u32) -> Option<u32>
     ensures some { IfSome result (λ k. (k < 64) × (from ≤ k) × (has_bit word k ≡ true)) }
     ensures first { IfSome result (λ k. (q : ℕ) → from ≤ q → q < k → has_bit word q ≡ false) }

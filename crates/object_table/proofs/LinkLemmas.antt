@@ -3,15 +3,15 @@ use Rattle.std.proofs.Common.{◌≡◌, ◌≢◌, ◌⊎◌, inl, inr, ℕ, ze
 use Rattle.std.specs.List.{AllByRecursion, IsDistinct}
 use Rattle.std.specs.Map.{keys_of, lookup}
 use Rattle.std.specs.Option.{option_and_then, option_map, option_map_or}
-use Rattle.std.specs.FinMap.{contains_key, from_entries, get, same_map}
+use Rattle.std.specs.FinMap.{from_entries, get, same_map}
 use Rattle.std.proofs.lemmas.Cmp.{nat_list_eq_equiv}
 use Rattle.git_name.specs.Name.{name_cmp}
 use Rattle.git_name.specs.Same.{same_name}
 use Rattle.git_name.proofs.HashMaps.{distinct_by_order, get_of_hashed}
 use Rattle.git_name.proofs.Names.{name_exact, name_total}
-use Rattle.number_links.specs.Known.{Known, known}
+use Rattle.number_links.specs.Facts.{Facts, Learned, learned, learned_as, told}
 use Rattle.object_table.specs.declared.row.Row.{Row}
-use Rattle.object_table.specs.Links.{AreLinks, KeepsNumbers, KnowsNoMore, NamedLinks, led_from, named_links, numbered, numbered_name}
+use Rattle.object_table.specs.Links.{AreLinks, KeepsNumbers, KnowsNoMore, led_from, named_links, numbered, numbered_name}
 use Rattle.object_table.specs.Clashes.{DescribesUnheld}
 use Rattle.object_table.specs.Rows.{AreRows, IsUsed, Rows, TellSame, row_in}
 use Rattle.object_table.proofs.ListingLemmas.{distinct_none}
@@ -95,7 +95,7 @@ pub named_is : (rows : Rows) (q : List ℕ) (row : Row) → AreRows rows → row
 named_is rows q row are here = ap (λ o. option_map_or (λ (e : List ℕ × Row). e.0) o []) (numbered_is rows q row are here)
 
 -- ---- what names lead to
-pub get_named : (rows : Rows) (links : Known) (q : List ℕ) → IsDistinct same_name (keys_of rows) → get (named_links rows links) q ≡ option_and_then (led_from rows links) (row_in rows q)
+pub get_named : (rows : Rows) (links : Facts) (q : List ℕ) → IsDistinct same_name (keys_of rows) → get (named_links rows links) q ≡ option_and_then (led_from rows links) (row_in rows q)
 get_named rows links q distinct =
     ap (λ m. get m q) (chosen_of_distinct {R = name_cmp} name_total name_exact (λ _ row. led_from rows links row) rows (distinct_by_order (keys_of rows) distinct))
     ∙ get_chosen name_total name_exact (λ _ row. led_from rows links row) (from_entries {R = name_cmp} rows) q
@@ -105,51 +105,56 @@ map_same : (f g : ℕ → List ℕ) (xs : List ℕ) → ((x : ℕ) → Contains 
 map_same f g [] each = refl
 map_same f g (x ∷ xs) each = (λ i. each x (0, omega arith, refl) i ∷ map_same f g xs (λ y is. each y (suc is.0, (let l = is.1 in omega (arith, l)), is.2)) i)
 
+as_same : (f g : ℕ → List ℕ) (one : Learned ℕ) → ((x : ℕ) → Contains one.links x → f x ≡ g x) → learned_as f one ≡ learned_as g one
+as_same f g one each = (let links = map_same f g one.links each in λ i. record { links = links i; time = one.time })
+
 -- where nothing is known of any number
-pub nothing_linked : (rows : Rows) (links : Known) → ((n : ℕ) → known links n ≡ None) → AreLinks rows links
+pub nothing_linked : (rows : Rows) (links : Facts) → ((n : ℕ) → learned links n ≡ None) → AreLinks rows links
 nothing_linked rows links nothing = record {
   own = λ n to is. none_is_some _ to (sym (nothing n) ∙ is);
   used = λ n to m is among. none_is_some _ to (sym (nothing n) ∙ is);
 }
 
-pub nothing_led : (rows : Rows) (links : Known) (q : List ℕ) → rows ≡ [] → get (named_links rows links) q ≡ None
+pub nothing_led : (rows : Rows) (links : Facts) (q : List ℕ) → rows ≡ [] → get (named_links rows links) q ≡ None
 nothing_led rows links q none = ap (λ es. get (named_links es links) q) none ∙ get_named [] links q distinct_none
 
--- whether anything is known of a name
-pub knows_row : (rows : Rows) (links : Known) (q : List ℕ) → IsDistinct same_name (keys_of rows) → contains_key (named_links rows links) q ≡ option_map_or (λ (row : Row). is_some (known links row.number)) (row_in rows q) false
-knows_row rows links q distinct = ap is_some (get_named rows links q distinct) ∙ by (row_in rows q)
+-- the time of a name
+pub time_row : (rows : Rows) (links : Facts) (q : List ℕ) (row : Row) → IsDistinct same_name (keys_of rows) → row_in rows q ≡ Some row
+    → option_map (λ (one : Learned ℕ). one.time) (learned links row.number) ≡ option_map (λ (one : Learned (List ℕ)). one.time) (get (named_links rows links) q)
+time_row rows links q row distinct here = sym (ap (option_map (λ (one : Learned (List ℕ)). one.time)) (get_named rows links q distinct ∙ ap (option_and_then (led_from rows links)) here) ∙ by (learned links row.number))
   where
-    at : (o : Option (List ℕ)) → is_some (option_map (map (numbered_name rows)) o) ≡ is_some o
-    at None = refl
-    at (Some to) = refl
-
-    by : (o : Option Row) → is_some (option_and_then (led_from rows links) o) ≡ option_map_or (λ (row : Row). is_some (known links row.number)) o false
+    by : (o : Option (Learned ℕ)) → option_map (λ (one : Learned (List ℕ)). one.time) (option_map (learned_as (numbered_name rows)) o) ≡ option_map (λ (one : Learned ℕ). one.time) o
     by None = refl
-    by (Some row) = at (known links row.number)
+    by (Some one) = refl
+
+-- something is known of it just where its time is
+pub some_timed : (o : Option (Learned (List ℕ))) → is_some (option_map (λ (one : Learned (List ℕ)). one.time) o) ≡ is_some o
+some_timed None = refl
+some_timed (Some one) = refl
 
 -- what the object of one row leads to is learned
-pub learned : (rows : Rows) (links after : Known) (name : List ℕ) (row : Row) (to : List ℕ) → AreRows rows → row_in rows name ≡ Some row
-    → ((n : ℕ) (ms : List ℕ) → known after n ≡ Some ms → (known links n ≡ Some ms) ⊎ ((n ≡ row.number) × (ms ≡ to)))
-    → (q : List ℕ) (names : List (List ℕ)) → get (named_links rows after) q ≡ Some names → (get (named_links rows links) q ≡ Some names) ⊎ ((q ≡ name) × (names ≡ map (numbered_name rows) to))
-learned rows links after name row to are here only q names is = by (row_in rows q) refl (sym (get_named rows after q are.distinct) ∙ is)
+pub learned_named : (rows : Rows) (links after : Facts) (name : List ℕ) (row : Row) (to : Learned ℕ) → AreRows rows → row_in rows name ≡ Some row
+    → ((n : ℕ) (ms : Learned ℕ) → learned after n ≡ Some ms → (learned links n ≡ Some ms) ⊎ ((n ≡ row.number) × (ms ≡ to)))
+    → (q : List ℕ) (names : Learned (List ℕ)) → get (named_links rows after) q ≡ Some names → (get (named_links rows links) q ≡ Some names) ⊎ ((q ≡ name) × (names ≡ learned_as (numbered_name rows) to))
+learned_named rows links after name row to are here only q names is = by (row_in rows q) refl (sym (get_named rows after q are.distinct) ∙ is)
   where
-    by : (o : Option Row) → row_in rows q ≡ o → option_and_then (led_from rows after) o ≡ Some names → (get (named_links rows links) q ≡ Some names) ⊎ ((q ≡ name) × (names ≡ map (numbered_name rows) to))
+    by : (o : Option Row) → row_in rows q ≡ o → option_and_then (led_from rows after) o ≡ Some names → (get (named_links rows links) q ≡ Some names) ⊎ ((q ≡ name) × (names ≡ learned_as (numbered_name rows) to))
     by None none led = none_is_some _ names led
-    by (Some other) there led = at (known after other.number) refl led
+    by (Some other) there led = at (learned after other.number) refl led
       where
-        at : (o : Option (List ℕ)) → known after other.number ≡ o → option_map (map (numbered_name rows)) o ≡ Some names → (get (named_links rows links) q ≡ Some names) ⊎ ((q ≡ name) × (names ≡ map (numbered_name rows) to))
+        at : (o : Option (Learned ℕ)) → learned after other.number ≡ o → option_map (learned_as (numbered_name rows)) o ≡ Some names → (get (named_links rows links) q ≡ Some names) ⊎ ((q ≡ name) × (names ≡ learned_as (numbered_name rows) to))
         at None none led = none_is_some _ names led
         at (Some ms) knows led = which (only other.number ms knows)
           where
-            which : (known links other.number ≡ Some ms) ⊎ ((other.number ≡ row.number) × (ms ≡ to)) → (get (named_links rows links) q ≡ Some names) ⊎ ((q ≡ name) × (names ≡ map (numbered_name rows) to))
-            which (inl before) = inl (get_named rows links q are.distinct ∙ ap (option_and_then (led_from rows links)) there ∙ ap (option_map (map (numbered_name rows))) before ∙ led)
+            which : (learned links other.number ≡ Some ms) ⊎ ((other.number ≡ row.number) × (ms ≡ to)) → (get (named_links rows links) q ≡ Some names) ⊎ ((q ≡ name) × (names ≡ learned_as (numbered_name rows) to))
+            which (inl before) = inl (get_named rows links q are.distinct ∙ ap (option_and_then (led_from rows links)) there ∙ ap (option_map (learned_as (numbered_name rows))) before ∙ led)
             which (inr now) =
-                (let both : Some (map (numbered_name rows) ms) ≡ Some names = led in
-                let one : map (numbered_name rows) ms ≡ names = cc in
-                inr (one_name q name (are.numbers q name other row there here now.0), sym one ∙ ap (map (numbered_name rows)) now.1))
+                (let both : Some (learned_as (numbered_name rows) ms) ≡ Some names = led in
+                let one : learned_as (numbered_name rows) ms ≡ names = cc in
+                inr (one_name q name (are.numbers q name other row there here now.0), sym one ∙ ap (learned_as (numbered_name rows)) now.1))
 
-pub learned_links : (rows : Rows) (links after : Known) (name : List ℕ) (row : Row) (to : List ℕ) → AreLinks rows links → row_in rows name ≡ Some row → ((m : ℕ) → Contains to m → IsUsed rows m)
-    → ((n : ℕ) (ms : List ℕ) → known after n ≡ Some ms → (known links n ≡ Some ms) ⊎ ((n ≡ row.number) × (ms ≡ to))) → AreLinks rows after
+pub learned_links : (rows : Rows) (links after : Facts) (name : List ℕ) (row : Row) (to : Learned ℕ) → AreLinks rows links → row_in rows name ≡ Some row → ((m : ℕ) → Contains to.links m → IsUsed rows m)
+    → ((n : ℕ) (ms : Learned ℕ) → learned after n ≡ Some ms → (learned links n ≡ Some ms) ⊎ ((n ≡ row.number) × (ms ≡ to))) → AreLinks rows after
 learned_links rows links after name row to linked here used only = record {
   own = λ n ms is. elim (only n ms is) [
     | inl before ↦ linked.own n ms before
@@ -157,9 +162,14 @@ learned_links rows links after name row to linked here used only = record {
   ];
   used = λ n ms m is among. elim (only n ms is) [
     | inl before ↦ linked.used n ms m before among
-    | inr now ↦ used m (subst (λ xs. Contains xs m) now.1 among)
+    | inr now ↦ used m (subst (λ (l : Learned ℕ). Contains l.links m) now.1 among)
   ];
 }
+
+-- links and a time, by names
+pub told_mapped : (f : ℕ → List ℕ) (to : List ℕ) (time : ℕ) → learned_as f (told to time) ≡ told (map f to) time
+told_mapped f [] time = refl
+told_mapped f (m ∷ ms) time = refl
 
 pub either_known : {A B C : Type 0} {x y z : A} {u v w : B} → x ≡ y → v ≡ w → (y ≡ z) ⊎ (C × (u ≡ v)) → (x ≡ z) ⊎ (C × (u ≡ w))
 either_known same other (inl before) = inl (same ∙ before)
@@ -171,7 +181,7 @@ still_named old new m are now_are kept used =
     let now = kept used.name used.row used.here used.same in
     ap (numbered_name new) (sym (now.2 ∙ used.same)) ∙ named_is new used.name now.0 now_are now.1 ∙ sym (named_is old used.name used.row are used.here) ∙ ap (numbered_name old) used.same
 
-module _ (old new : Rows) (links : Known) (are : AreRows old) (now_are : AreRows new) (linked : AreLinks old links) (keeps : KeepsNumbers old new) where
+module _ (old new : Rows) (links : Facts) (are : AreRows old) (now_are : AreRows new) (linked : AreLinks old links) (keeps : KeepsNumbers old new) where
   used_yet : (n : ℕ) → IsUsed old n → IsUsed new n
   used_yet n used = (let now = keeps.kept used.name used.row used.here in record { name = used.name; row = now.0; here = now.1; same = now.2 ∙ used.same })
 
@@ -182,20 +192,20 @@ module _ (old new : Rows) (links : Known) (are : AreRows old) (now_are : AreRows
   }
 
   led_same : (row now : Row) → now.number ≡ row.number → led_from new links now ≡ led_from old links row
-  led_same row now number = ap (λ n. option_map (map (numbered_name new)) (known links n)) number ∙ by (known links row.number) refl
+  led_same row now number = ap (λ n. option_map (learned_as (numbered_name new)) (learned links n)) number ∙ by (learned links row.number) refl
     where
-      by : (o : Option (List ℕ)) → known links row.number ≡ o → option_map (map (numbered_name new)) o ≡ option_map (map (numbered_name old)) o
+      by : (o : Option (Learned ℕ)) → learned links row.number ≡ o → option_map (learned_as (numbered_name new)) o ≡ option_map (learned_as (numbered_name old)) o
       by None is = refl
-      by (Some to) is = ap Some (map_same (numbered_name new) (numbered_name old) to (λ m among. still_named old new m are now_are (λ q r here _. keeps.kept q r here) (linked.used row.number to m is among)))
+      by (Some to) is = ap Some (as_same (numbered_name new) (numbered_name old) to (λ m among. still_named old new m are now_are (λ q r here _. keeps.kept q r here) (linked.used row.number to m is among)))
 
   pub same_links : named_links new links ≡ named_links old links
   same_links = same_map name_total name_exact _ _ (λ q. get_named new links q now_are.distinct ∙ by q (row_in old q) refl (row_in new q) refl ∙ sym (get_named old links q are.distinct))
     where
       by : (q : List ℕ) (o : Option Row) → row_in old q ≡ o → (n : Option Row) → row_in new q ≡ n → option_and_then (led_from new links) n ≡ option_and_then (led_from old links) o
       by q None gone None none = refl
-      by q None gone (Some now) is = at (known links now.number) refl
+      by q None gone (Some now) is = at (learned links now.number) refl
         where
-          at : (o : Option (List ℕ)) → known links now.number ≡ o → option_map (map (numbered_name new)) o ≡ None
+          at : (o : Option (Learned ℕ)) → learned links now.number ≡ o → option_map (learned_as (numbered_name new)) o ≡ None
           at None none = refl
           at (Some to) there = absurd (keeps.fresh q now gone is (linked.own now.number to there))
       by q (Some row) here None none = (let now = keeps.kept q row here in none_is_some _ now.0 (sym none ∙ now.1))
@@ -245,9 +255,9 @@ pub keeps_all : (rows : Rows) → KeepsNumbers rows rows
 keeps_all rows = keeps_told rows rows (λ q. refl)
 
 -- ---- a name leaves, and its number is renewed
-module _ (old new : Rows) (links after : Known) (name : List ℕ) (gone : Row) (are : AreRows old) (now_are : AreRows new) (linked : AreLinks old links) (here : row_in old name ≡ Some gone)
+module _ (old new : Rows) (links after : Facts) (name : List ℕ) (gone : Row) (are : AreRows old) (now_are : AreRows new) (linked : AreLinks old links) (here : row_in old name ≡ Some gone)
     (rows : (q : List ℕ) → row_in new q ≡ cond (same_name name q) None (row_in old q))
-    (renewed : (n : ℕ) (to : List ℕ) → known after n ≡ Some to → (known links n ≡ Some to) × (n ≢ gone.number) × (Contains to gone.number → ⊥)) where
+    (renewed : (n : ℕ) (to : Learned ℕ) → learned after n ≡ Some to → (learned links n ≡ Some to) × (n ≢ gone.number) × (Contains to.links gone.number → ⊥)) where
   stays : (q : List ℕ) (row : Row) → row_in old q ≡ Some row → row.number ≢ gone.number → row_in new q ≡ Some row
   stays q row is apart = rows q ∙ by (same_name name q) refl
     where
@@ -261,8 +271,8 @@ module _ (old new : Rows) (links after : Known) (name : List ℕ) (gone : Row) (
   used_left : (n : ℕ) → IsUsed old n → n ≢ gone.number → IsUsed new n
   used_left n used apart = record { name = used.name; row = used.row; here = stays used.name used.row used.here (λ is. apart (sym used.same ∙ is)); same = used.same }
 
-  apart_in : (n : ℕ) (to : List ℕ) (m : ℕ) → known after n ≡ Some to → Contains to m → m ≢ gone.number
-  apart_in n to m is among same = (renewed n to is).2 (subst (Contains to) same among)
+  apart_in : (n : ℕ) (to : Learned ℕ) (m : ℕ) → learned after n ≡ Some to → Contains to.links m → m ≢ gone.number
+  apart_in n to m is among same = (renewed n to is).2 (subst (Contains to.links) same among)
 
   pub left_links : AreLinks new after
   left_links = record {
@@ -275,7 +285,7 @@ module _ (old new : Rows) (links after : Known) (name : List ℕ) (gone : Row) (
     where
       by : (o : Option Row) → row_in new q ≡ o → option_and_then (led_from new after) o ≡ Some to → get (named_links old links) q ≡ Some to
       by None none led = none_is_some _ to led
-      by (Some row) there led = at (known after row.number) refl led
+      by (Some row) there led = at (learned after row.number) refl led
         where
           before : row_in old q ≡ Some row
           before = was (same_name name q) refl
@@ -284,15 +294,15 @@ module _ (old new : Rows) (links after : Known) (name : List ℕ) (gone : Row) (
               was true same = none_is_some _ row (sym (rows q ∙ ap (λ b. cond b None (row_in old q)) same) ∙ there)
               was false other = sym (rows q ∙ ap (λ b. cond b None (row_in old q)) other) ∙ there
 
-          at : (o : Option (List ℕ)) → known after row.number ≡ o → option_map (map (numbered_name new)) o ≡ Some to → get (named_links old links) q ≡ Some to
+          at : (o : Option (Learned ℕ)) → learned after row.number ≡ o → option_map (learned_as (numbered_name new)) o ≡ Some to → get (named_links old links) q ≡ Some to
           at None none led = none_is_some _ to led
           at (Some ms) knows led =
               (let first = (renewed row.number ms knows).0 in
-              let same : map (numbered_name new) ms ≡ map (numbered_name old) ms = map_same (numbered_name new) (numbered_name old) ms (λ m among. still_named old new m are now_are (λ p r held number. (r, stays p r held (λ is. apart_in row.number ms m knows among (sym number ∙ is)), refl)) (linked.used row.number ms m first among)) in
-              get_named old links q are.distinct ∙ ap (option_and_then (led_from old links)) before ∙ ap (option_map (map (numbered_name old))) first ∙ ap Some (sym same) ∙ led)
+              let same : learned_as (numbered_name new) ms ≡ learned_as (numbered_name old) ms = as_same (numbered_name new) (numbered_name old) ms (λ m among. still_named old new m are now_are (λ p r held number. (r, stays p r held (λ is. apart_in row.number ms m knows among (sym number ∙ is)), refl)) (linked.used row.number ms m first among)) in
+              get_named old links q are.distinct ∙ ap (option_and_then (led_from old links)) before ∙ ap (option_map (learned_as (numbered_name old))) first ∙ ap Some (sym same) ∙ led)
 
 -- ---- what is known by fewer numbers
-module _ (rows : Rows) (links after : Known) (are : AreRows rows) (fewer : (n : ℕ) (to : List ℕ) → known after n ≡ Some to → known links n ≡ Some to) where
+module _ (rows : Rows) (links after : Facts) (are : AreRows rows) (fewer : (n : ℕ) (to : Learned ℕ) → learned after n ≡ Some to → learned links n ≡ Some to) where
   pub fewer_links : AreLinks rows links → AreLinks rows after
   fewer_links linked = record {
     own = λ n to is. linked.own n to (fewer n to is);
@@ -304,19 +314,19 @@ module _ (rows : Rows) (links after : Known) (are : AreRows rows) (fewer : (n : 
     where
       by : (o : Option Row) → row_in rows q ≡ o → option_and_then (led_from rows after) o ≡ Some to → get (named_links rows links) q ≡ Some to
       by None none led = none_is_some _ to led
-      by (Some row) there led = at (known after row.number) refl led
+      by (Some row) there led = at (learned after row.number) refl led
         where
-          at : (o : Option (List ℕ)) → known after row.number ≡ o → option_map (map (numbered_name rows)) o ≡ Some to → get (named_links rows links) q ≡ Some to
+          at : (o : Option (Learned ℕ)) → learned after row.number ≡ o → option_map (learned_as (numbered_name rows)) o ≡ Some to → get (named_links rows links) q ≡ Some to
           at None none led = none_is_some _ to led
-          at (Some ms) knows led = get_named rows links q are.distinct ∙ ap (option_and_then (led_from rows links)) there ∙ ap (option_map (map (numbered_name rows))) (fewer row.number ms knows) ∙ led
+          at (Some ms) knows led = get_named rows links q are.distinct ∙ ap (option_and_then (led_from rows links)) there ∙ ap (option_map (learned_as (numbered_name rows))) (fewer row.number ms knows) ∙ led
 
 -- a name is not known whose number is not, or that has none
-pub away_known : (rows : Rows) (after : Known) (name : List ℕ) (row : Row) → AreRows rows → row_in rows name ≡ Some row → ((to : List ℕ) → known after row.number ≡ Some to → ⊥) → get (named_links rows after) name ≡ None
-away_known rows after name row are here away = get_named rows after name are.distinct ∙ ap (option_and_then (led_from rows after)) here ∙ by (known after row.number) refl
+pub away_known : (rows : Rows) (after : Facts) (name : List ℕ) (row : Row) → AreRows rows → row_in rows name ≡ Some row → ((to : Learned ℕ) → learned after row.number ≡ Some to → ⊥) → get (named_links rows after) name ≡ None
+away_known rows after name row are here away = get_named rows after name are.distinct ∙ ap (option_and_then (led_from rows after)) here ∙ by (learned after row.number) refl
   where
-    by : (o : Option (List ℕ)) → known after row.number ≡ o → option_map (map (numbered_name rows)) o ≡ None
+    by : (o : Option (Learned ℕ)) → learned after row.number ≡ o → option_map (learned_as (numbered_name rows)) o ≡ None
     by None none = refl
     by (Some to) is = absurd (away to is)
 
-pub none_known : (rows : Rows) (after : Known) (name : List ℕ) → AreRows rows → row_in rows name ≡ None → get (named_links rows after) name ≡ None
+pub none_known : (rows : Rows) (after : Facts) (name : List ℕ) → AreRows rows → row_in rows name ≡ None → get (named_links rows after) name ≡ None
 none_known rows after name are gone = get_named rows after name are.distinct ∙ ap (option_and_then (led_from rows after)) gone

@@ -1,19 +1,22 @@
 -- Walks over numbers, as walks over names.
-use Rattle.std.proofs.Common.{◌≡◌, ◌≢◌, ◌⊎◌, ◌||◌, inl, inr, ℕ, zero, suc, ◌<◌, Bool, true, false, cond, List, [], ◌∷◌, length, Option, None, Some, Contains, is_some, map, refl, sym, ap, subst, ◌∙◌, arith}
+use Rattle.std.proofs.Common.{◌≡◌, ◌⊎◌, ◌||◌, inl, inr, ℕ, zero, suc, Bool, true, false, cond, List, [], ◌∷◌, Option, None, Some, Contains, is_some, get_or, map, nat_eq, refl, sym, ap, subst, ◌∙◌, arith}
 use Rattle.std.specs.Option.{option_and_then, option_map, option_map_or, unwrap_or}
 use Rattle.std.specs.FinMap.{contains_key, get}
-use Rattle.git_name.specs.Same.{same_name}
 use Rattle.git_name.proofs.Names.{name_exact, name_total}
 use Rattle.fork_reach.specs.Reach.{IsReached, Root, Next}
-use Rattle.number_links.specs.Known.{Known, known, linked}
+use Rattle.number_links.specs.Facts.{Facts, Learned, goes_from, goes_on, learned, learned_as, nothing, time_beside, told as told_by}
+use Rattle.number_links.specs.Known.{known}
+use Rattle.number_links.specs.declared.along.Along.{Along}
+use Rattle.number_links.specs.declared.along.Along.TheVariants.{Links, Parents}
+use Rattle.number_links.proofs.FactLemmas.{some_learned}
 use Rattle.number_links.specs.Reach.{IsReached as Goes, Root as Begins, Next as GoesOn}
 use Rattle.number_sets.specs.Numbers.{Pages, has}
 use Rattle.object_table.specs.declared.row.Row.{Row}
 use Rattle.object_table.specs.declared.word.Word.{Word}
-use Rattle.object_table.specs.Links.{AreLinks, leads_nowhere, led_from, named_links, next_named, numbered, numbered_name, rests_in}
+use Rattle.object_table.specs.Links.{AreLinks, leads_nowhere, led_from, named_links, next_along, numbered_name, rests_in}
 use Rattle.object_table.specs.Rows.{AreRows, IsUsed, Rows, row_in}
 use Rattle.object_table.specs.Views.{IsOwn, Sets, holds, word_by, word_in, words_of}
-use Rattle.object_table.specs.Walked.{IsBetween, IsLedTo, IsMet}
+use Rattle.object_table.specs.Walked.{IsBetween, IsMet}
 use Rattle.object_table.specs.Words.{Words, is_visible, kept_as, words_that}
 use Rattle.object_table.proofs.ChosenLemmas.{get_chosen}
 use Rattle.object_table.proofs.LinkLemmas.{get_named, named_is, numbered_is}
@@ -30,6 +33,25 @@ pub mapped_from : {A B : Type 0} (f : A → B) (xs : List A) (z : B) → Contain
 mapped_from f [] z is = absurd (let l = is.1 in omega (arith, l))
 mapped_from f (y ∷ ys) z (zero, l, same) = (y, (0, omega arith, refl), same)
 mapped_from f (y ∷ ys) z (suc k, l, same) = (let later = mapped_from f ys z (k, omega (arith, l), same) in (later.0, (suc later.1.0, (let m = later.1.1 in omega (arith, m)), later.1.2), later.2))
+
+-- ---- what a walk goes on to, of numbers and of names
+goes_mapped : (f : ℕ → List ℕ) (along : Along) (ms : List ℕ) (w : ℕ) → goes_from along (map f ms) (time_beside ms w) ≡ map f (goes_from along ms w)
+goes_mapped f Links ms w = refl
+goes_mapped f Parents [] w = refl
+goes_mapped f Parents (tree ∷ parents) w = by (nat_eq w 0)
+  where
+    by : (b : Bool) → cond b [] (map f parents) ≡ map f (cond b [] parents)
+    by true = refl
+    by false = refl
+
+goes_among : (along : Along) (ms : List ℕ) (w m : ℕ) → Contains (goes_from along ms w) m → Contains ms m
+goes_among Links ms w m is = is
+goes_among Parents [] w m is = is
+goes_among Parents (tree ∷ parents) w m is = by (nat_eq w 0) is
+  where
+    by : (b : Bool) → Contains (cond b [] parents) m → Contains (tree ∷ parents) m
+    by true is = absurd (let l = is.1 in omega (arith, l))
+    by false is = (suc is.0, (let l = is.1 in omega (arith, l)), is.2)
 
 -- numbers as those of a tenant that sees them
 abbrev pub as_sets : Pages → Sets
@@ -74,12 +96,12 @@ seen_by_row rows own q are = ap is_some (get_seen rows own q are) ∙ by (row_in
     by None = refl
     by (Some row) = at row (has own.visible row.number)
 
-module _ (rows : Rows) (own : Sets) (links : Known) (are : AreRows rows) (is_own : IsOwn rows own) (are_links : AreLinks rows links) where
+module _ (rows : Rows) (own : Sets) (links : Facts) (are : AreRows rows) (is_own : IsOwn rows own) (are_links : AreLinks rows links) (along : Along) where
   abbrev pub next : List ℕ → List (List ℕ)
-  next = next_named (named_links rows links)
+  next = next_along along (named_links rows links)
 
   abbrev pub nextn : ℕ → List ℕ
-  nextn = linked links
+  nextn = goes_on along links
 
   -- a row of a name that is seen
   seen_row : (q : List ℕ) → contains_key (Seen rows own) q ≡ true → (row : Row) × (row_in rows q ≡ Some row) × (has own.visible row.number ≡ true)
@@ -100,23 +122,33 @@ module _ (rows : Rows) (own : Sets) (links : Known) (are : AreRows rows) (is_own
   rests_row : (q : List ℕ) (row : Row) → row_in rows q ≡ Some row → rests_in rows row.number ≡ leads_nowhere row.kind
   rests_row q row is = ap (λ o. option_map_or (λ (e : List ℕ × Row). leads_nowhere e.1.kind) o false) (numbered_is rows q row are is)
 
-  led_row : (q : List ℕ) (row : Row) → row_in rows q ≡ Some row → get (named_links rows links) q ≡ option_map (map (numbered_name rows)) (known links row.number)
+  led_row : (q : List ℕ) (row : Row) → row_in rows q ≡ Some row → get (named_links rows links) q ≡ option_map (learned_as (numbered_name rows)) (learned links row.number)
   led_row q row is = get_named rows links q are.distinct ∙ ap (option_and_then (led_from rows links)) is
 
   next_row : (q : List ℕ) (row : Row) → row_in rows q ≡ Some row → next q ≡ map (numbered_name rows) (nextn row.number)
-  next_row q row is = ap (λ o. unwrap_or o []) (led_row q row is) ∙ at (known links row.number)
+  next_row q row is = ap (λ o. option_map_or (λ (one : Learned (List ℕ)). goes_from along one.links one.time) o []) (led_row q row is) ∙ at (known links.links row.number)
     where
-      at : (o : Option (List ℕ)) → unwrap_or (option_map (map (numbered_name rows)) o) [] ≡ map (numbered_name rows) (unwrap_or o [])
-      at None = refl
-      at (Some to) = refl
+      word : ℕ
+      word = get_or links.times row.number 0
+
+      at : (o : Option (List ℕ)) → option_map_or (λ (one : Learned (List ℕ)). goes_from along one.links one.time) (option_map (learned_as (numbered_name rows)) (option_map (λ ms. told_by ms word) o)) [] ≡ map (numbered_name rows) (goes_from along (unwrap_or o []) word)
+      at None = none along
+        where
+          none : (a : Along) → [] ≡ map (numbered_name rows) (goes_from a [] word)
+          none Links = refl
+          none Parents = refl
+      at (Some ms) = goes_mapped (numbered_name rows) along ms word
 
   -- numbers that lead on are in use
   next_used : (n m : ℕ) → Contains (nextn n) m → IsUsed rows m
-  next_used n m is = at (known links n) refl is
+  next_used n m is = at (known links.links n) refl is
     where
-      at : (o : Option (List ℕ)) → known links n ≡ o → Contains (unwrap_or o []) m → IsUsed rows m
-      at None none among = absurd (let l = among.1 in omega (arith, l))
-      at (Some to) there among = are_links.used n to m there among
+      word : ℕ
+      word = get_or links.times n 0
+
+      at : (o : Option (List ℕ)) → known links.links n ≡ o → Contains (goes_from along (unwrap_or o []) word) m → IsUsed rows m
+      at None none among = absurd (let l = (goes_among along [] word m among).1 in omega (arith, l))
+      at (Some ms) there among = are_links.used n (told_by ms word) m (ap (option_map (λ ls. told_by ls word)) there) (goes_among along ms word m among)
 
   -- the number of a name in use is its row's
   one_number : (m : ℕ) (q : List ℕ) (row : Row) → IsUsed rows m → numbered_name rows m ≡ q → row_in rows q ≡ Some row → m ≡ row.number
@@ -127,12 +159,12 @@ module _ (rows : Rows) (own : Sets) (links : Known) (are : AreRows rows) (is_own
       sym used.same ∙ ap (λ (r : Row). r.number) one)
 
   -- what is known of a number is known of its name
-  told : (q : List ℕ) (row : Row) → row_in rows q ≡ Some row → has own.visible row.number ≡ true → (rests_in rows row.number ≡ true) ⊎ (is_some (known links row.number) ≡ true)
+  told : (q : List ℕ) (row : Row) → row_in rows q ≡ Some row → has own.visible row.number ≡ true → (rests_in rows row.number ≡ true) ⊎ (is_some (known links.links row.number) ≡ true)
       → (option_map_or (λ (word : Word). leads_nowhere word.kind) (get (Seen rows own) q) false ≡ true) ⊎ (contains_key (named_links rows links) q ≡ true)
   told q row here seen (inl rests) = inl (kind_seen q row here seen ∙ sym (rests_row q row here) ∙ rests)
-  told q row here seen (inr knows) = inr (ap is_some (led_row q row here) ∙ by (known links row.number) ∙ knows)
+  told q row here seen (inr knows) = inr (ap is_some (led_row q row here) ∙ by (learned links row.number) ∙ some_learned links row.number ∙ knows)
     where
-      by : (o : Option (List ℕ)) → is_some (option_map (map (numbered_name rows)) o) ≡ is_some o
+      by : (o : Option (Learned ℕ)) → is_some (option_map (learned_as (numbered_name rows)) o) ≡ is_some o
       by None = refl
       by (Some to) = refl
 
@@ -182,10 +214,10 @@ module _ (rows : Rows) (own : Sets) (links : Known) (are : AreRows rows) (is_own
       (only : (n : ℕ) → Contains ns n → IsUsed rows n × Contains wanted (numbered_name rows n)) (all : (name : List ℕ) (row : Row) → Contains wanted name → row_in rows name ≡ Some row → Contains ns row.number)
       (only_out : (n : ℕ) → Contains ms n → IsUsed rows n × Contains excluded (numbered_name rows n)) (all_out : (name : List ℕ) (row : Row) → Contains excluded name → row_in rows name ≡ Some row → Contains ms row.number) where
     pub between_only : (found : ℕ → Bool) → ((n : ℕ) → found n ≡ true → Goes nextn (has own.visible) ns n × (Goes nextn (has own.visible) ms n → ⊥))
-        → (q : List ℕ) → option_map_or (λ (row : Row). found row.number) (row_in rows q) false ≡ true → IsBetween (Seen rows own) (named_links rows links) wanted excluded q
+        → (q : List ℕ) → option_map_or (λ (row : Row). found row.number) (row_in rows q) false ≡ true → IsBetween (Seen rows own) next wanted excluded q
     between_only found is q there = by (row_in rows q) refl there
       where
-        by : (o : Option Row) → row_in rows q ≡ o → option_map_or (λ (row : Row). found row.number) o false ≡ true → IsBetween (Seen rows own) (named_links rows links) wanted excluded q
+        by : (o : Option Row) → row_in rows q ≡ o → option_map_or (λ (row : Row). found row.number) o false ≡ true → IsBetween (Seen rows own) next wanted excluded q
         by None none found_it = (let differs : ⊥ = cc in absurd differs)
         by (Some row) here found_it = record {
           led = goes_named wanted ns only all row.number (is row.number found_it).0 q row here refl;
@@ -197,20 +229,20 @@ module _ (rows : Rows) (own : Sets) (links : Known) (are : AreRows rows) (is_own
     reached_row roots _ (Next from q before leads there) = seen_row q there
 
     pub between_all : (found : ℕ → Bool) → ((n : ℕ) → Goes nextn (has own.visible) ns n → (Goes nextn (has own.visible) ms n → ⊥) → found n ≡ true)
-        → (q : List ℕ) → IsBetween (Seen rows own) (named_links rows links) wanted excluded q → option_map_or (λ (row : Row). found row.number) (row_in rows q) false ≡ true
+        → (q : List ℕ) → IsBetween (Seen rows own) next wanted excluded q → option_map_or (λ (row : Row). found row.number) (row_in rows q) false ≡ true
     between_all found is q between =
         (let here = reached_row wanted q between.led in
         ap (λ o. option_map_or (λ (row : Row). found row.number) o false) here.1
         ∙ is here.0.number (named_goes wanted ns only all q between.led here.0 here.1) (λ out. between.left (goes_named excluded ms only_out all_out here.0.number out q here.0 here.1 refl)))
 
-    pub between_known : ((n : ℕ) → Goes nextn (has own.visible) ns n ⊎ Goes nextn (has own.visible) ms n → (rests_in rows n ≡ true) ⊎ (is_some (known links n) ≡ true))
-        → (q : List ℕ) → IsMet (Seen rows own) (named_links rows links) wanted excluded q
+    pub between_known : ((n : ℕ) → Goes nextn (has own.visible) ns n ⊎ Goes nextn (has own.visible) ms n → (rests_in rows n ≡ true) ⊎ (is_some (known links.links n) ≡ true))
+        → (q : List ℕ) → IsMet (Seen rows own) next wanted excluded q
         → (option_map_or (λ (word : Word). leads_nowhere word.kind) (get (Seen rows own) q) false ≡ true) ⊎ (contains_key (named_links rows links) q ≡ true)
     between_known is q (inl led) = (let here = reached_row wanted q led in told q here.0 here.1 here.2 (is here.0.number (inl (named_goes wanted ns only all q led here.0 here.1))))
     between_known is q (inr led) = (let here = reached_row excluded q led in told q here.0 here.1 here.2 (is here.0.number (inr (named_goes excluded ms only_out all_out q led here.0 here.1))))
 
   -- ---- what is known once all that some names lead to is kept
-  module _ (after : Known) (only : (n : ℕ) (ms : List ℕ) → known after n ≡ Some ms → (known links n ≡ Some ms) ⊎ ((ms ≡ []) × (has own.visible n ≡ true) × (rests_in rows n ≡ true))) where
+  module _ (after : Facts) (only : (n : ℕ) (ms : Learned ℕ) → learned after n ≡ Some ms → (learned links n ≡ Some ms) ⊎ ((ms ≡ nothing) × (has own.visible n ≡ true) × (rests_in rows n ≡ true))) where
     seen_used : (n : ℕ) → has own.visible n ≡ true → IsUsed rows n
     seen_used n seen = is_own.within n (ap (λ b. b || has own.staged n) seen)
 
@@ -226,26 +258,25 @@ module _ (rows : Rows) (own : Sets) (links : Known) (are : AreRows rows) (is_own
       ];
     }
       where
-        no_element : (to : List ℕ) (m : ℕ) → to ≡ [] → Contains to m → ⊥
-        no_element [] m is among = (let l = among.1 in omega (arith, l))
-        no_element (x ∷ xs) m is among = (let differs : ⊥ = cc in differs)
+        no_element : (to : Learned ℕ) (m : ℕ) → to ≡ nothing → Contains to.links m → ⊥
+        no_element to m is among = (let out = subst (λ (one : Learned ℕ). Contains one.links m) is among in let l = out.1 in omega (arith, l))
 
-    pub kept_named : (q : List ℕ) (names : List (List ℕ)) → get (named_links rows after) q ≡ Some names
-        → (get (named_links rows links) q ≡ Some names) ⊎ ((names ≡ []) × (option_map_or (λ (word : Word). leads_nowhere word.kind) (get (Seen rows own) q) false ≡ true))
+    pub kept_named : (q : List ℕ) (names : Learned (List ℕ)) → get (named_links rows after) q ≡ Some names
+        → (get (named_links rows links) q ≡ Some names) ⊎ ((names ≡ nothing) × (option_map_or (λ (word : Word). leads_nowhere word.kind) (get (Seen rows own) q) false ≡ true))
     kept_named q names is = by (row_in rows q) refl (sym (get_named rows after q are.distinct) ∙ is)
       where
         by : (o : Option Row) → row_in rows q ≡ o → option_and_then (led_from rows after) o ≡ Some names
-            → (get (named_links rows links) q ≡ Some names) ⊎ ((names ≡ []) × (option_map_or (λ (word : Word). leads_nowhere word.kind) (get (Seen rows own) q) false ≡ true))
+            → (get (named_links rows links) q ≡ Some names) ⊎ ((names ≡ nothing) × (option_map_or (λ (word : Word). leads_nowhere word.kind) (get (Seen rows own) q) false ≡ true))
         by None none led = none_is_some _ names led
-        by (Some row) here led = at (known after row.number) refl led
+        by (Some row) here led = at (learned after row.number) refl led
           where
-            at : (o : Option (List ℕ)) → known after row.number ≡ o → option_map (map (numbered_name rows)) o ≡ Some names
-                → (get (named_links rows links) q ≡ Some names) ⊎ ((names ≡ []) × (option_map_or (λ (word : Word). leads_nowhere word.kind) (get (Seen rows own) q) false ≡ true))
+            at : (o : Option (Learned ℕ)) → learned after row.number ≡ o → option_map (learned_as (numbered_name rows)) o ≡ Some names
+                → (get (named_links rows links) q ≡ Some names) ⊎ ((names ≡ nothing) × (option_map_or (λ (word : Word). leads_nowhere word.kind) (get (Seen rows own) q) false ≡ true))
             at None none led = none_is_some _ names led
             at (Some ms) knows led = elim (only row.number ms knows) [
-              | inl before ↦ inl (led_row q row here ∙ ap (option_map (map (numbered_name rows))) before ∙ led)
+              | inl before ↦ inl (led_row q row here ∙ ap (option_map (learned_as (numbered_name rows))) before ∙ led)
               | inr rests ↦
-                  (let both : Some (map (numbered_name rows) ms) ≡ Some names = led in
-                  let one : map (numbered_name rows) ms ≡ names = cc in
-                  inr (sym one ∙ ap (map (numbered_name rows)) rests.0, kind_seen q row here rests.1 ∙ sym (rests_row q row here) ∙ rests.2))
+                  (let both : Some (learned_as (numbered_name rows) ms) ≡ Some names = led in
+                  let one : learned_as (numbered_name rows) ms ≡ names = cc in
+                  inr (sym one ∙ ap (learned_as (numbered_name rows)) rests.0, kind_seen q row here rests.1 ∙ sym (rests_row q row here) ∙ rests.2))
             ]

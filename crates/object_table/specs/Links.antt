@@ -1,12 +1,14 @@
 -- What names of objects lead to, where that is known (own): it is kept by numbers, and no number is seen from outside.
-use Rattle.std.specs.Prelude.{◌≡◌, ℕ, Bool, true, false, List, [], ◌∷◌, Option, None, Some, Contains, map, nat_eq, if◌then◌else◌}
-use Rattle.std.specs.Coded.{Coded, coded_ℕ, coded_list}
+use Rattle.std.specs.Prelude.{◌≡◌, ℕ, Bool, true, false, List, [], ◌∷◌, Option, None, Some, Contains, nat_eq, refl, if◌then◌else◌}
+use Rattle.std.specs.Coded.{Coded, code_by, coded×, coded_ℕ, coded_list}
 use Rattle.std.specs.FinMap.{FinMap, code, from_entries, get}
-use Rattle.std.specs.Option.{option_map, option_map_or, unwrap_or}
+use Rattle.std.specs.Option.{option_map, option_map_or}
 use Rattle.git_name.specs.Name.{name_cmp}
 use Rattle.git_name.specs.declared.kind.Kind.{Kind}
 use Rattle.git_name.specs.declared.kind.Kind.TheVariants.{Blob, Tree, Commit, Tag}
-use Rattle.number_links.specs.Known.{Known, known}
+use Rattle.number_links.specs.Facts.{Facts, Learned, goes_from, learned, learned_as}
+use Rattle.number_links.specs.declared.along.Along.{Along}
+use Rattle.number_links.specs.declared.along.Along.TheVariants.{Links, Parents}
 use Rattle.object_table.specs.Chosen.{chosen_in}
 use Rattle.object_table.specs.Rows.{IsUsed, Rows, row_in}
 use Rattle.object_table.specs.declared.row.Row.{Row}
@@ -31,21 +33,21 @@ leads_nowhere Tag = false
 abbrev pub rests_in : Rows → ℕ → Bool
 rests_in rows n = option_map_or (λ e. leads_nowhere e.1.kind) (numbered rows n) false
 
--- names with those that their objects lead to, of objects of which that is known
+-- names with those that their objects lead to, and their times, of objects of which that is known
 abbrev pub NamedLinks : Type 0
-NamedLinks = FinMap name_cmp (List (List ℕ))
+NamedLinks = FinMap name_cmp (Learned (List ℕ))
 
--- what the object of a row leads to, if that is known
-abbrev pub led_from : Rows → Known → Row → Option (List (List ℕ))
-led_from rows links row = option_map (map (numbered_name rows)) (known links row.number)
+-- what is known of the object of a row
+abbrev pub led_from : Rows → Facts → Row → Option (Learned (List ℕ))
+led_from rows links row = option_map (learned_as (numbered_name rows)) (learned links row.number)
 
-abbrev pub named_links : Rows → Known → NamedLinks
+abbrev pub named_links : Rows → Facts → NamedLinks
 named_links rows links = from_entries {R = name_cmp} (chosen_in (λ _ row. led_from rows links row) rows)
 
 -- links are known of numbers in use, and lead to numbers in use
-pub record AreLinks (rows : Rows) (links : Known) : Type 0 where
-  pub own : (n : ℕ) (to : List ℕ) → known links n ≡ Some to → IsUsed rows n
-  pub used : (n : ℕ) (to : List ℕ) (m : ℕ) → known links n ≡ Some to → Contains to m → IsUsed rows m
+pub record AreLinks (rows : Rows) (links : Facts) : Type 0 where
+  pub own : (n : ℕ) (one : Learned ℕ) → learned links n ≡ Some one → IsUsed rows n
+  pub used : (n : ℕ) (one : Learned ℕ) (m : ℕ) → learned links n ≡ Some one → Contains one.links m → IsUsed rows m
 
 -- each name that was there has its number still, and a name that is new has one that was nobody's
 pub record KeepsNumbers (old new : Rows) : Type 0 where
@@ -54,12 +56,23 @@ pub record KeepsNumbers (old new : Rows) : Type 0 where
 
 -- whatever is known now was known before
 abbrev pub KnowsNoMore : NamedLinks → NamedLinks → Type 0
-KnowsNoMore old new = (name : List ℕ) (to : List (List ℕ)) → get new name ≡ Some to → get old name ≡ Some to
+KnowsNoMore old new = (name : List ℕ) (one : Learned (List ℕ)) → get new name ≡ Some one → get old name ≡ Some one
 
--- what a name leads to; one of which nothing is known leads to nothing
+-- what a walk goes on to from a name; from one of which nothing is known to nothing
+abbrev pub next_along : Along → NamedLinks → List ℕ → List (List ℕ)
+next_along along links name = option_map_or (λ one. goes_from along one.links one.time) (get links name) []
+
+-- what a name leads to
 abbrev pub next_named : NamedLinks → List ℕ → List (List ℕ)
-next_named links name = unwrap_or (get links name) []
+next_named links = next_along Links links
+
+-- the parents of a commit
+abbrev pub parents_named : NamedLinks → List ℕ → List (List ℕ)
+parents_named links = next_along Parents links
 
 -- links have a code, so that they can be a part of a model's value
+abbrev pub coded_learned : Coded (Learned (List ℕ))
+coded_learned = code_by (List (List ℕ) × ℕ) (coded× (coded_list (coded_list coded_ℕ)) coded_ℕ) (λ one. (one.links, one.time)) (λ p. record { links = p.0; time = p.1 }) (λ _. refl)
+
 abbrev pub links_code : Coded NamedLinks
-links_code = code (coded_list coded_ℕ) (coded_list (coded_list coded_ℕ))
+links_code = code (coded_list coded_ℕ) coded_learned

@@ -1,4 +1,4 @@
-// What comes to a ledger that is to see what another one shows. A tenant that is not there has no words.
+// What a ledger adopts of another one. A tenant that does not exist has no words.
 ghost use Rattle.std.specs.Prelude.{◌≡◌, ◌+◌, false, ℕ, IfOk, sum_by};
 ghost use Rattle.std.specs.FinMap.{get};
 ghost use Rattle.std.specs.Option.{option_copied, option_map_or};
@@ -40,7 +40,7 @@ fn is_seen(word: Option<Word>) -> bool
     }
 }
 
-// The entry of an object that the other ledger shows, and this one does not.
+// The entry of an object that the other ledger sees and this one does not.
 fn coming_at(name: Name, shown: Option<Word>, own: Option<Word>) -> Option<Entry>
     ensures { result ≡ coming_at name shown own }
 {
@@ -57,7 +57,7 @@ fn coming_at(name: Name, shown: Option<Word>, own: Option<Word>) -> Option<Entry
     None
 }
 
-// The entries of what comes, of these names.
+// The entries of what is adopted of these names.
 pub(crate) fn coming(
     alloc: Global,
     table: &Table,
@@ -78,7 +78,7 @@ pub(crate) fn coming(
     Ok(entries)
 }
 
-// What an object uses, if it comes.
+// The use of an object, if it is adopted.
 fn coming_size(name: Name, shown: Option<Word>, own: Option<Word>) -> u128
     ensures { result ≡ option_map_or use_of_entry (coming_at name shown own) 0 }
 {
@@ -88,7 +88,7 @@ fn coming_size(name: Name, shown: Option<Word>, own: Option<Word>) -> u128
     size_of(entry.length)
 }
 
-// A total, and beside it what the objects use that come, of these names.
+// A total, plus the use of the objects of these names that are adopted.
 pub(crate) fn use_with_coming(
     table: &Table,
     shown: Option<&Ledger>,

@@ -1,4 +1,4 @@
-// Rows of names that nobody holds, which come to tell what is to be staged.
+// Writes the rows of names that nobody holds for what is to be staged.
 ghost use Rattle.std.specs.Prelude.{◌≡◌, ◌⊎◌, ℕ, List, true, false, Some};
 ghost use Rattle.std.specs.List.{All};
 ghost use Rattle.git_name.specs.Same.{same_name};
@@ -11,7 +11,7 @@ use crate::entry::Entry;
 use crate::row::Row;
 use crate::table::Table;
 
-// Whether a row is of the kind and length of an entry.
+// Whether a row has the kind and length of an entry.
 pub(crate) fn is_as(row: &Row, entry: Entry) -> bool
     ensures alike { result ≡ true → (row.now.kind ≡ entry.kind) × (row.now.length ≡ entry.length) }
     ensures apart { result ≡ false → row.now.kind ≡ entry.kind → row.now.length ≡ entry.length → ⊥ }
@@ -19,7 +19,7 @@ pub(crate) fn is_as(row: &Row, entry: Entry) -> bool
     row.kind == entry.kind && row.length == entry.length
 }
 
-// Whether the row of an entry's name is of its kind and length.
+// Whether the row of an entry's name has the entry's kind and length.
 fn has_row(table: &Table, entry: Entry) -> bool
     ensures has { result ≡ true → HasRow table.now.entries entry }
     ensures lacks { result ≡ false → HasRow table.now.entries entry → ⊥ }
@@ -30,7 +30,7 @@ fn has_row(table: &Table, entry: Entry) -> bool
     is_as(&row, entry)
 }
 
-// The row of an entry's name comes to be of its kind and length, if nobody holds the name.
+// Gives the row of an entry's name the entry's kind and length, if nobody holds the name.
 fn describe(table: &mut Table, entry: Entry)
     ensures places { places_of table.new ≡ places_of table.old }
     ensures describes { DescribesUnheld table.old.entries table.new.entries }
@@ -51,7 +51,7 @@ fn describe(table: &mut Table, entry: Entry)
     });
 }
 
-// The same of entries. Answers whether the rows of all of them are so.
+// The same for entries. Returns whether the rows of all of them have their kinds and lengths.
 pub(crate) fn describe_all(table: &mut Table, entries: &[Entry]) -> bool
     requires listed { AreListed (places_of table.old) entries.now }
     ensures places { places_of table.new ≡ places_of table.old }

@@ -3,19 +3,19 @@ ghost use Rattle.object_table.specs.Told.{entry_of};
 
 use git_name::{Kind, Name, Sealed};
 
-/// What a ledger is told of an object that is to be staged.
+/// What a ledger needs to know of an object to stage it.
 #[derive(Clone, Copy, Debug)]
 pub struct Entry {
     /// The object's name.
     pub name: Name,
     /// Its kind.
     pub kind: Kind,
-    /// How many bytes its content has.
+    /// The length of its content.
     pub length: u64,
 }
 
 impl Entry {
-    /// Of an object.
+    /// The entry of an object.
     pub fn of(sealed: &Sealed) -> Entry
         ensures { result ≡ entry_of sealed.now }
     {

@@ -2,7 +2,7 @@ ghost use Rattle.std.specs.Prelude.{◌≡◌, ◌≢◌, ◌<◌, ◌≤◌, �
 ghost use Rattle.std.specs.FinMap as map;
 ghost use Rattle.std.specs.HashSet.{contains};
 ghost use Rattle.std.specs.List.{IsDistinct};
-ghost use Rattle.std.specs.Option.{option_map_or};
+ghost use Rattle.std.specs.Option.{option_map, option_map_or};
 ghost use Rattle.git_name.specs.Same.{is_listed, same_name};
 ghost use Rattle.looks.specs.Growth.{GrowsAmong};
 ghost use Rattle.looks.specs.Places.{at_start, looked_at};
@@ -11,11 +11,11 @@ ghost use Rattle.object_table.specs.AllStaged.{AreListed, all_staged_words};
 ghost use Rattle.object_table.specs.Clashes.{AreAs, Clash};
 ghost use Rattle.object_table.specs.Holders.{AreHeld, holders_of, is_held_in};
 ghost use Rattle.object_table.specs.Ledgers.{at_ledger, ledger_at, with_ledger, word_at};
-ghost use Rattle.object_table.specs.Links.{AreLinks, KnowsNoMore, KeepsNumbers, leads_nowhere, named_links, numbered_name};
+ghost use Rattle.object_table.specs.Links.{AreLinks, KnowsNoMore, KeepsNumbers, leads_nowhere, named_links, next_named, numbered_name, parents_named};
 ghost use Rattle.object_table.specs.Walked.{IsBetween, IsMet};
 ghost use Rattle.object_table.specs.Rows.{IsUsed, LooksNextAt, places_of, row_in};
 ghost use Rattle.object_table.specs.declared.row.Row.{Row};
-ghost use Rattle.number_links.specs.Known.{known};
+ghost use Rattle.number_links.specs.Facts.{Learned, learned, nothing, told};
 ghost use Rattle.object_table.specs.Totals.{capped, total_of, used_by};
 ghost use Rattle.object_table.specs.Views.{all_words};
 ghost use Rattle.object_table.specs.Words.{discarded_words, is_staged, is_visible, kept_words, published_words, staged_words, words_that};
@@ -24,7 +24,7 @@ use crate::coming::{coming, use_with_coming, word_under};
 use crate::describing::{describe_all, is_as};
 use crate::entry::Entry;
 use crate::ledgers::Ledgers;
-use crate::linking::{keep_names, names_between, numbers_of};
+use crate::linking::{keep_names, names_between, names_in_history, numbers_of};
 use crate::listing::{count_seen, seen_names};
 use crate::name_set::NameSet;
 use crate::row::Row;
@@ -38,8 +38,8 @@ use number_links::Graph;
 use std::alloc::{AllocError, Global};
 use std::marker::Model;
 
-/// The ledgers of all tenants over one table of names, and what the objects of names lead to, where that is
-/// known. A name's number of holders is that of the ledgers that have a word of it.
+/// The ledgers of all tenants over one table of names, and the links of objects, as far as they are known. The number
+/// of holders of a name is the number of ledgers that have a word of it.
 #[derive(Drop)]
 pub struct Holdings {
     table: Table,
@@ -66,7 +66,7 @@ impl Model for Holdings {
 }
 
 impl Holdings {
-    /// No tenants, and these names in their order, which nobody holds.
+    /// Without tenants, and with these names in their order, which nobody holds.
     pub fn over(alloc: Global, hashing: Hashing, names: &[Name]) -> Result<Holdings, AllocError>
         ensures ledgers { IfOk result (λ h. h.ledgers ≡ map.empty) }
         ensures listed { IfOk result (λ h. (q : List ℕ) → is_listed (places_of h.catalogue).names q ≡ is_listed names.now q) }
@@ -84,12 +84,12 @@ impl Holdings {
         Ok(holdings)
     }
 
-    /// How names of objects are hashed.
+    /// How to hash names of objects.
     pub fn hashing(&self) -> Hashing {
         self.table.hashing()
     }
 
-    /// Adds a tenant that holds nothing, unless it is there.
+    /// Adds a tenant that holds nothing, unless it exists.
     pub fn add(&mut self, alloc: Global, tenant: TenantName) -> Result<(), AllocError>
         ensures ok { OnOk result (self.new.ledgers ≡ with_ledger self.old.ledgers tenant) }
         ensures err { OnErr result (self.new.ledgers ≡ self.old.ledgers) }
@@ -99,7 +99,7 @@ impl Holdings {
         self.ledgers.add(alloc, &self.table, tenant)
     }
 
-    /// Whether a tenant is there.
+    /// Whether a tenant exists.
     pub fn contains(&self, tenant: &TenantName) -> bool
         ensures { result ≡ map.contains_key self.now.ledgers tenant.now }
     {
@@ -143,22 +143,22 @@ impl Holdings {
         names_in(alloc, &self.table, &self.ledgers, tenant)
     }
 
-    /// How many objects a tenant sees, in linear time of them.
+    /// How many objects a tenant sees, in time linear in their number.
     pub fn seen_count(&self, tenant: &TenantName) -> usize
         ensures { result ≡ map.len (words_that is_visible (ledger_at self.now.ledgers tenant.now)) }
     {
         seen_count_in(&self.table, &self.ledgers, tenant)
     }
 
-    /// What the objects use that a tenant sees, in constant time behind the look-up of the tenant.
+    /// The use of the objects that a tenant sees, in constant time after the tenant is looked up.
     pub fn used(&self, tenant: &TenantName) -> u128
         ensures { result ≡ capped (used_by (ledger_at self.now.ledgers tenant.now)) }
     {
         used_in(&self.table, &self.ledgers, tenant)
     }
 
-    /// Whether what a tenant sees and has staged uses so much at the most, in constant time behind the
-    /// look-up of the tenant.
+    /// Whether the use of what a tenant sees and has staged is at most this, in constant time after the tenant is looked
+    /// up.
     pub fn is_within(&self, tenant: &TenantName, limit: u64) -> bool
         ensures { result ≡ nat_le (total_of (ledger_at self.now.ledgers tenant.now)) limit }
     {
@@ -175,8 +175,8 @@ impl Holdings {
         row.holders > 0
     }
 
-    /// Whether an object of this name, kind and length may be staged: whatever any ledger says of the name
-    /// is of this kind and length.
+    /// Whether an object of this name, kind and length may be staged: whatever any ledger says of the name has this kind
+    /// and length.
     pub fn may_stage(&self, name: Name, kind: Kind, length: u64) -> bool
         ensures may { result ≡ true → AreAs self.now.ledgers name kind length }
         ensures clash { result ≡ false → AreAs self.now.ledgers name kind length → ⊥ }
@@ -191,8 +191,8 @@ impl Holdings {
         is_as(&row, Entry { name, kind, length })
     }
 
-    /// Whether what a tenant sees, with the objects of these names that another one sees beside it, uses so
-    /// much at the most, in linear time of the names.
+    /// Whether the use of what a tenant sees, together with the objects of these names that another one sees, is at most
+    /// this, in time linear in the names.
     pub fn has_room(
         &self,
         to: &TenantName,
@@ -209,8 +209,7 @@ impl Holdings {
         use_with_coming(&self.table, shown, own, names, used) <= limit as u128
     }
 
-    /// A tenant comes to see the objects of these names that another one sees, all or none, in linear time
-    /// of the names.
+    /// A tenant comes to see the objects of these names that another one sees, all or none, in time linear in the names.
     pub fn adopt(
         &mut self,
         alloc: Global,
@@ -234,7 +233,7 @@ impl Holdings {
         seen
     }
 
-    /// Stages the objects of these entries for a tenant, in order, all or none. Their names are catalogued.
+    /// Stages the objects of these entries for a tenant, in order, all or none. Their names are in the catalogue.
     pub fn stage_all(&mut self, tenant: &TenantName, entries: &[Entry]) -> Result<(), StageFault>
         requires listed { AreListed (places_of self.old.catalogue) entries.now }
         ensures ok { OnOk result (self.new.ledgers ≡ at_ledger self.old.ledgers tenant.now (all_staged_words entries.now)) }
@@ -249,7 +248,7 @@ impl Holdings {
         staged
     }
 
-    /// The same of one object.
+    /// The same for one object.
     pub fn stage(
         &mut self,
         tenant: &TenantName,
@@ -269,7 +268,7 @@ impl Holdings {
         self.stage_all(tenant, entries.as_slice())
     }
 
-    /// What a tenant has staged becomes visible to it. It takes no memory.
+    /// The tenant sees what it has staged. It allocates nothing.
     pub fn publish(&mut self, tenant: &TenantName)
         ensures ledgers { self.new.ledgers ≡ at_ledger self.old.ledgers tenant.now published_words }
         ensures catalogue { self.new.catalogue ≡ self.old.catalogue }
@@ -278,7 +277,7 @@ impl Holdings {
         self.ledgers.publish(&self.table, tenant);
     }
 
-    /// What a tenant has staged goes. It takes no memory.
+    /// The tenant has staged nothing. It allocates nothing.
     pub fn discard(&mut self, tenant: &TenantName)
         ensures ledgers { self.new.ledgers ≡ at_ledger self.old.ledgers tenant.now discarded_words }
         ensures places { places_of self.new.catalogue ≡ places_of self.old.catalogue }
@@ -289,7 +288,7 @@ impl Holdings {
         self.table.invariant();
     }
 
-    /// Of what a tenant sees, keeps these names alone. It takes no memory.
+    /// Of what a tenant sees, only the objects of these names stay. It allocates nothing.
     pub fn keep_only<N: NameSet>(&mut self, tenant: &TenantName, names: &N)
         ensures ledgers { self.new.ledgers ≡ at_ledger self.old.ledgers tenant.now (kept_words (N.names names.now)) }
         ensures places { places_of self.new.catalogue ≡ places_of self.old.catalogue }
@@ -300,7 +299,7 @@ impl Holdings {
         self.table.invariant();
     }
 
-    /// Enters a name in the catalogue, unless it is there.
+    /// Adds a name to the catalogue, unless it is there.
     pub fn enter(&mut self, name: Name) -> Result<(), AllocError>
         ensures listed { OnOk result ((q : List ℕ) → is_listed (places_of self.new.catalogue).names q ≡ (same_name name q || is_listed (places_of self.old.catalogue).names q)) }
         ensures grows { GrowsAmong (name ∷ []) (places_of self.old.catalogue) (places_of self.new.catalogue) }
@@ -311,12 +310,12 @@ impl Holdings {
         enter_in(&mut self.table, &self.ledgers, &self.links, name)
     }
 
-    /// What the object of a name leads to is learned, if all these names are catalogued as it is. Where there
-    /// is no memory for that, it stays unknown.
-    pub fn learn(&mut self, alloc: Global, name: Name, to: &[Name])
+    /// Learns the links and the time of the object of a name, if it and all these names are in the catalogue. If there is no
+    /// memory, they stay unknown. The time of a commit is the seconds since 1970 plus 1, and of any other object 0.
+    pub fn learn(&mut self, alloc: Global, name: Name, to: &[Name], time: u64)
         ensures ledgers { self.new.ledgers ≡ self.old.ledgers }
         ensures catalogue { self.new.catalogue ≡ self.old.catalogue }
-        ensures links { (q : List ℕ) (names : List (List ℕ)) → map.get self.new.links q ≡ Some names → (map.get self.old.links q ≡ Some names) ⊎ ((q ≡ name) × (names ≡ to.now)) }
+        ensures links { (q : List ℕ) (one : Learned (List ℕ)) → map.get self.new.links q ≡ Some one → (map.get self.old.links q ≡ Some one) ⊎ ((q ≡ name) × (one ≡ told to.now time)) }
     {
         let Some(row) = self.table.row(name) else {
             return;
@@ -324,10 +323,17 @@ impl Holdings {
         let Ok(Some(numbers)) = numbers_of(alloc, &self.table, to) else {
             return;
         };
-        learn_row(&self.table, &mut self.links, name, row, numbers.as_slice());
+        learn_row(
+            &self.table,
+            &mut self.links,
+            name,
+            row,
+            numbers.as_slice(),
+            time,
+        );
     }
 
-    /// What the object of a name leads to is known no more.
+    /// Forgets the links of the object of a name.
     pub fn forget(&mut self, name: Name)
         ensures ledgers { self.new.ledgers ≡ self.old.ledgers }
         ensures catalogue { self.new.catalogue ≡ self.old.catalogue }
@@ -337,19 +343,15 @@ impl Holdings {
         forget_in(&self.table, &mut self.links, name);
     }
 
-    /// Whether it is known what the object of a name leads to.
+    /// Whether the links of the object of a name are known.
     pub fn knows(&self, name: Name) -> bool
         ensures { result ≡ map.contains_key self.now.links name }
     {
-        self.table.invariant();
-        let Some(row) = self.table.row(name) else {
-            return false;
-        };
-        self.links.links().of(row.number).is_some()
+        self.time(name).is_some()
     }
 
-    /// The names of what a tenant sees that links lead to from the wanted ones, and from none of the excluded
-    /// ones; nothing where an object on the way is met of which it is not known what it leads to.
+    /// The names of what a tenant sees that the wanted ones reach and the excluded ones do not; `None` if the links of an
+    /// object on the way are not known.
     pub fn between(
         &self,
         alloc: Global,
@@ -357,9 +359,9 @@ impl Holdings {
         wanted: &[Name],
         excluded: &[Name],
     ) -> Result<Option<IndexSet<Name, Hashing>>, AllocError>
-        ensures only { IfOk result (λ found. IfSome found (λ names. (name : List ℕ) → contains same_name names name ≡ true → IsBetween (words_that is_visible (ledger_at self.now.ledgers tenant.now)) self.now.links wanted.now excluded.now name)) }
-        ensures all { IfOk result (λ found. IfSome found (λ names. (name : List ℕ) → IsBetween (words_that is_visible (ledger_at self.now.ledgers tenant.now)) self.now.links wanted.now excluded.now name → contains same_name names name ≡ true)) }
-        ensures known { IfOk result (λ found. IfSome found (λ names. (name : List ℕ) → IsMet (words_that is_visible (ledger_at self.now.ledgers tenant.now)) self.now.links wanted.now excluded.now name → (option_map_or (λ word. leads_nowhere word.kind) (map.get (words_that is_visible (ledger_at self.now.ledgers tenant.now)) name) false ≡ true) ⊎ (map.contains_key self.now.links name ≡ true))) }
+        ensures only { IfOk result (λ found. IfSome found (λ names. (name : List ℕ) → contains same_name names name ≡ true → IsBetween (words_that is_visible (ledger_at self.now.ledgers tenant.now)) (next_named self.now.links) wanted.now excluded.now name)) }
+        ensures all { IfOk result (λ found. IfSome found (λ names. (name : List ℕ) → IsBetween (words_that is_visible (ledger_at self.now.ledgers tenant.now)) (next_named self.now.links) wanted.now excluded.now name → contains same_name names name ≡ true)) }
+        ensures known { IfOk result (λ found. IfSome found (λ names. (name : List ℕ) → IsMet (words_that is_visible (ledger_at self.now.ledgers tenant.now)) (next_named self.now.links) wanted.now excluded.now name → (option_map_or (λ word. leads_nowhere word.kind) (map.get (words_that is_visible (ledger_at self.now.ledgers tenant.now)) name) false ≡ true) ⊎ (map.contains_key self.now.links name ≡ true))) }
     {
         let Some(own) = self.ledgers.get(tenant) else {
             return Ok(None);
@@ -367,12 +369,42 @@ impl Holdings {
         names_between(alloc, &self.table, &self.links, own, wanted, excluded)
     }
 
-    /// All that these names lead to is kept, so that it need not be walked again, if the tenant sees all of it
-    /// and it is known. What leads to no other is known to from then on.
+    /// The same by parents of commits alone.
+    pub fn history(
+        &self,
+        alloc: Global,
+        tenant: &TenantName,
+        wanted: &[Name],
+        excluded: &[Name],
+    ) -> Result<Option<IndexSet<Name, Hashing>>, AllocError>
+        ensures only { IfOk result (λ found. IfSome found (λ names. (name : List ℕ) → contains same_name names name ≡ true → IsBetween (words_that is_visible (ledger_at self.now.ledgers tenant.now)) (parents_named self.now.links) wanted.now excluded.now name)) }
+        ensures all { IfOk result (λ found. IfSome found (λ names. (name : List ℕ) → IsBetween (words_that is_visible (ledger_at self.now.ledgers tenant.now)) (parents_named self.now.links) wanted.now excluded.now name → contains same_name names name ≡ true)) }
+        ensures known { IfOk result (λ found. IfSome found (λ names. (name : List ℕ) → IsMet (words_that is_visible (ledger_at self.now.ledgers tenant.now)) (parents_named self.now.links) wanted.now excluded.now name → (option_map_or (λ word. leads_nowhere word.kind) (map.get (words_that is_visible (ledger_at self.now.ledgers tenant.now)) name) false ≡ true) ⊎ (map.contains_key self.now.links name ≡ true))) }
+    {
+        let Some(own) = self.ledgers.get(tenant) else {
+            return Ok(None);
+        };
+        names_in_history(alloc, &self.table, &self.links, own, wanted, excluded)
+    }
+
+    /// The time of the object of a name, if its links are known: of a commit the seconds since 1970 plus 1, and of any
+    /// other object 0.
+    pub fn time(&self, name: Name) -> Option<u64>
+        ensures { result ≡ option_map (λ one. one.time) (map.get self.now.links name) }
+    {
+        self.table.invariant();
+        let Some(row) = self.table.row(name) else {
+            return None;
+        };
+        self.links.time(row.number)
+    }
+
+    /// Keeps the sets of all that these names reach, so that they need not be walked again, if the tenant sees all of it and
+    /// the links are known. An object in them that has no links is known to have none from then on.
     pub fn keep_reached(&mut self, alloc: Global, tenant: &TenantName, names: &[Name])
         ensures ledgers { self.new.ledgers ≡ self.old.ledgers }
         ensures catalogue { self.new.catalogue ≡ self.old.catalogue }
-        ensures links { (q : List ℕ) (to : List (List ℕ)) → map.get self.new.links q ≡ Some to → (map.get self.old.links q ≡ Some to) ⊎ ((to ≡ []) × (option_map_or (λ word. leads_nowhere word.kind) (map.get (words_that is_visible (ledger_at self.old.ledgers tenant.now)) q) false ≡ true)) }
+        ensures links { (q : List ℕ) (one : Learned (List ℕ)) → map.get self.new.links q ≡ Some one → (map.get self.old.links q ≡ Some one) ⊎ ((one ≡ nothing) × (option_map_or (λ word. leads_nowhere word.kind) (map.get (words_that is_visible (ledger_at self.old.ledgers tenant.now)) q) false ≡ true)) }
     {
         let Some(own) = self.ledgers.get(tenant) else {
             return;
@@ -380,14 +412,14 @@ impl Holdings {
         keep_names(alloc, &self.table, &mut self.links, own, names);
     }
 
-    /// How many names are catalogued.
+    /// How many names the catalogue has.
     pub fn len(&self) -> usize
         ensures { result ≡ length (places_of self.now.catalogue).names }
     {
         self.table.len()
     }
 
-    /// The name that the next look falls at, if nobody holds it.
+    /// The name at the place of the next look, if nobody holds it.
     pub fn free_name(&self) -> Option<Name>
         ensures some { IfSome result (λ name. LooksNextAt (places_of self.now.catalogue) name × (holders_of self.now.ledgers name ≡ 0)) }
         ensures none { IfNone result (((places_of self.now.catalogue).names ≡ []) ⊎ ((name : List ℕ) × LooksNextAt (places_of self.now.catalogue) name × (0 < holders_of self.now.ledgers name))) }
@@ -395,7 +427,7 @@ impl Holdings {
         self.table.free_name()
     }
 
-    /// The name at a place of the catalogue, if somebody holds it. Each name stands at one place.
+    /// The name at a place of the catalogue, if a tenant holds it. Each name is at one place.
     pub fn held_name(&self, at: usize) -> Option<Name>
         ensures some { IfSome result (λ name. (slice_get (places_of self.now.catalogue).names at ≡ Some name) × (is_held_in self.now.ledgers name ≡ true)) }
         ensures first { IfSome result (λ name. is_listed (take at (places_of self.now.catalogue).names) name ≡ false) }
@@ -404,28 +436,28 @@ impl Holdings {
         self.table.held_name(at)
     }
 
-    /// A law, and no work: each name that somebody holds is catalogued.
+    /// A law, with no code to run: each name that a tenant holds is in the catalogue.
     pub fn held_names_are_catalogued(&self)
         ensures { (name : List ℕ) → is_held_in self.now.ledgers name ≡ true → is_listed (places_of self.now.catalogue).names name ≡ true }
     {
         let _ledgers = &self.ledgers;
     }
 
-    /// A law, and no work: no name is catalogued twice.
+    /// A law, with no code to run: no name is in the catalogue twice.
     pub fn names_are_distinct(&self)
         ensures { IsDistinct same_name (places_of self.now.catalogue).names }
     {
         self.table.invariant();
     }
 
-    /// A law, and no work: what ledgers say of one name is of one kind and length.
+    /// A law, with no code to run: all that ledgers say of one name has one kind and length.
     pub fn words_are_alike(&self)
         ensures { AllAlike self.now.ledgers }
     {
         self.table.invariant();
     }
 
-    /// Passes over the name that the next look falls at.
+    /// Skips the name at the place of the next look.
     pub fn pass(&mut self)
         requires { 0 < length (places_of self.old.catalogue).names }
         ensures ledgers { self.new.ledgers ≡ self.old.ledgers }
@@ -436,7 +468,7 @@ impl Holdings {
         self.table.pass();
     }
 
-    /// Takes the name that the next look falls at out of the catalogue. Nobody holds it.
+    /// Removes the name at the place of the next look from the catalogue. Nobody may hold it.
     pub fn leave(&mut self, name: Name)
         requires next { LooksNextAt (places_of self.old.catalogue) name }
         requires free { holders_of self.old.ledgers name ≡ 0 }
@@ -483,17 +515,17 @@ fn forget_in(table: &Table, links: &mut Graph, name: Name)
     links.renew(row.number);
 }
 
-// What the object of a row leads to is learned: objects of these numbers.
-fn learn_row(table: &Table, links: &mut Graph, name: Name, row: Row, to: &[u32])
+// Learns the links of the object of a row, by their numbers.
+fn learn_row(table: &Table, links: &mut Graph, name: Name, row: Row, to: &[u32], time: u64)
     requires linked { AreLinks table.now.entries links.old }
     requires here { row_in table.now.entries name ≡ Some row }
     requires used { (m : ℕ) → Contains to.now m → IsUsed table.now.entries m }
     ensures linked { AreLinks table.now.entries links.new }
-    ensures links { (q : List ℕ) (names : List (List ℕ)) → map.get (named_links table.now.entries links.new) q ≡ Some names → (map.get (named_links table.now.entries links.old) q ≡ Some names) ⊎ ((q ≡ name) × (names ≡ mapped (numbered_name table.now.entries) to.now)) }
+    ensures links { (q : List ℕ) (one : Learned (List ℕ)) → map.get (named_links table.now.entries links.new) q ≡ Some one → (map.get (named_links table.now.entries links.old) q ≡ Some one) ⊎ ((q ≡ name) × (one ≡ told (mapped (numbered_name table.now.entries) to.now) time)) }
 {
     table.invariant();
     let _name = name;
-    let _learned = links.learn(row.number, to);
+    let _learned = links.learn(row.number, to, time);
 }
 
 fn names_in(
@@ -542,7 +574,7 @@ fn is_within_in(table: &Table, ledgers: &Ledgers, tenant: &TenantName, limit: u6
     ledger.total() <= limit as u128
 }
 
-// Enters a name, which nobody holds if it is new.
+// Adds a name. If it is new, nobody holds it.
 fn enter_in(
     table: &mut Table,
     ledgers: &Ledgers,
@@ -565,9 +597,9 @@ fn enter_in(
     entered
 }
 
-// What is known of the number of a name is forgotten, and what leads to it.
+// Forgets the links of a name's number, and of those that link to it.
 fn renew(table: &Table, links: &mut Graph, name: Name)
-    ensures { (row : Row) → row_in table.now.entries name ≡ Some row → (n : ℕ) (to : List ℕ) → known links.new n ≡ Some to → (known links.old n ≡ Some to) × (n ≢ row.number) × (Contains to row.number → ⊥) }
+    ensures { (row : Row) → row_in table.now.entries name ≡ Some row → (n : ℕ) (one : Learned ℕ) → learned links.new n ≡ Some one → (learned links.old n ≡ Some one) × (n ≢ row.number) × (Contains one.links row.number → ⊥) }
 {
     let Some(row) = table.row(name) else {
         return;
@@ -575,7 +607,7 @@ fn renew(table: &Table, links: &mut Graph, name: Name)
     links.renew(row.number);
 }
 
-// Takes out a name that nobody holds.
+// Removes a name that nobody holds.
 fn leave_in(table: &mut Table, ledgers: &Ledgers, links: &mut Graph, name: Name)
     requires held { AreHeld table.old.entries ledgers.now }
     requires linked { AreLinks table.old.entries links.old }
@@ -597,7 +629,7 @@ fn leave_in(table: &mut Table, ledgers: &Ledgers, links: &mut Graph, name: Name)
     table.invariant();
 }
 
-// Where nobody holds a name its row comes to tell what is staged, and then all are staged or none.
+// Writes the rows of names that nobody holds for what is staged, and then stages all or none.
 fn stage_in(
     table: &mut Table,
     ledgers: &mut Ledgers,

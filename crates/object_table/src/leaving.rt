@@ -1,4 +1,4 @@
-// Objects that one tenant comes to see or to have staged no more. It takes no memory.
+// Takes objects from what one tenant sees or has staged. It allocates nothing.
 ghost use Rattle.std.specs.Prelude.{◌≡◌, true, ℕ};
 ghost use Rattle.object_table.specs.Views.{IsOne, Moves, words_of};
 ghost use Rattle.object_table.specs.Words.{discarded_words, kept_words};
@@ -9,7 +9,7 @@ use crate::settling::settle;
 use crate::table::Table;
 use nearby::Nearby;
 
-// What is staged goes.
+// Takes away all that is staged.
 pub(crate) fn discard(table: &mut Table, own: &mut Ledger)
     requires one { IsOne table.old.entries own.old }
     ensures words { words_of table.new.entries own.new ≡ discarded_words (words_of table.old.entries own.old) }
@@ -31,7 +31,7 @@ pub(crate) fn discard(table: &mut Table, own: &mut Ledger)
     own.end_staging();
 }
 
-// Of what is seen these names alone stay so.
+// Of what is seen, only these names stay.
 pub(crate) fn keep_only<N: NameSet>(table: &mut Table, own: &mut Ledger, names: &N)
     requires one { IsOne table.old.entries own.old }
     ensures words { words_of table.new.entries own.new ≡ kept_words (N.names names.now) (words_of table.old.entries own.old) }

@@ -7,8 +7,8 @@ use number_sets::NumberSet;
 use std::alloc::{AllocError, Global};
 use std::marker::Model;
 
-/// The numbers of what a tenant sees and of what it has staged, and what the objects use, those that it
-/// sees and all of them.
+/// The numbers of what a tenant sees and of what it has staged, the use of the objects that it sees, and the use of all
+/// of them.
 #[derive(Drop)]
 pub(crate) struct Ledger {
     visible: NumberSet,
@@ -31,7 +31,7 @@ impl Model for Ledger {
 }
 
 impl Ledger {
-    /// Nothing.
+    /// An empty ledger.
     pub(crate) fn new(alloc: Global) -> Ledger
         ensures visible { (q : ℕ) → has result.visible q ≡ false }
         ensures staged { (q : ℕ) → has result.staged q ≡ false }
@@ -74,7 +74,7 @@ impl Ledger {
         self.visible.contains(n) || self.staged.contains(n)
     }
 
-    /// The first number at one or after it that the tenant sees.
+    /// The smallest number that the tenant sees and that is at least this one.
     pub(crate) fn next_seen(&self, from: u32) -> Option<u32>
         ensures some { IfSome result (λ n. (from ≤ n) × (has self.now.visible n ≡ true)) }
         ensures first { IfSome result (λ n. (q : ℕ) → from ≤ q → q < n → has self.now.visible q ≡ false) }
@@ -83,7 +83,7 @@ impl Ledger {
         self.visible.next(from)
     }
 
-    /// The first number at one or after it that the tenant has staged.
+    /// The smallest number that the tenant has staged and that is at least this one.
     pub(crate) fn next_staged(&self, from: u32) -> Option<u32>
         ensures some { IfSome result (λ n. (from ≤ n) × (has self.now.staged n ≡ true)) }
         ensures first { IfSome result (λ n. (q : ℕ) → from ≤ q → q < n → has self.now.staged q ≡ false) }
@@ -92,21 +92,21 @@ impl Ledger {
         self.staged.next(from)
     }
 
-    /// What the objects use that the tenant sees.
+    /// The use of the objects that the tenant sees.
     pub(crate) fn used(&self) -> u128
         ensures { result ≡ self.now.used }
     {
         self.used
     }
 
-    /// What all of them use.
+    /// The use of all of them.
     pub(crate) fn total(&self) -> u128
         ensures { result ≡ self.now.total }
     {
         self.total
     }
 
-    /// Sees to it that a number may be seen and staged. The tenant's objects stay as they are.
+    /// Reserves room for a number to be seen and staged. The tenant's objects stay as they are.
     pub(crate) fn reserve(&mut self, n: u32) -> Result<(), AllocError>
         ensures visible { (q : ℕ) → has self.new.visible q ≡ has self.old.visible q }
         ensures staged { (q : ℕ) → has self.new.staged q ≡ has self.old.staged q }
@@ -120,7 +120,7 @@ impl Ledger {
         self.staged.reserve(n)
     }
 
-    /// An object of this number, which uses so much, comes to stand so with the tenant. It takes no memory.
+    /// Sets how the object of this number and this use stands with the tenant. It allocates nothing.
     pub(crate) fn mark(&mut self, n: u32, size: u128, visible: bool, staged: bool)
         requires visible { visible ≡ true → has_room self.old.visible n ≡ true }
         requires staged { staged ≡ true → has_room self.old.staged n ≡ true }
@@ -143,7 +143,7 @@ impl Ledger {
         set(&mut self.staged, n, staged);
     }
 
-    /// What is staged comes to be seen. It takes no memory.
+    /// The tenant sees what is staged. It allocates nothing.
     pub(crate) fn publish(&mut self)
         ensures visible { (q : ℕ) → has self.new.visible q ≡ (has self.old.visible q || has self.old.staged q) }
         ensures staged { (q : ℕ) → has self.new.staged q ≡ false }
@@ -155,7 +155,7 @@ impl Ledger {
         self.used = self.total;
     }
 
-    /// Gives back the room of what was staged, where nothing is.
+    /// Frees the room for staged numbers, if none is staged.
     pub(crate) fn end_staging(&mut self)
         requires { (q : ℕ) → has self.old.staged q ≡ false }
         ensures visible { self.new.visible ≡ self.old.visible }
@@ -167,7 +167,7 @@ impl Ledger {
     }
 }
 
-// Puts a number into a set, or takes it out.
+// Adds a number to a set, or removes it.
 fn set(numbers: &mut NumberSet, n: u32, is_in: bool)
     requires { is_in ≡ true → has_room numbers.old n ≡ true }
     ensures has { (q : ℕ) → has numbers.new q ≡ (if nat_eq q n then is_in else has numbers.old q) }
@@ -180,7 +180,7 @@ fn set(numbers: &mut NumberSet, n: u32, is_in: bool)
     }
 }
 
-// A sum, as what counted in it or not comes to count or not.
+// A sum, after something that counted in it or not now counts or not.
 fn moved(sum: u128, size: u128, was: bool, is: bool) -> u128
     requires within { (if was then size else 0) ≤ sum }
     requires fits { sum + (if is then size else 0) < 2 ^ 128 + (if was then size else 0) }
@@ -192,7 +192,7 @@ fn moved(sum: u128, size: u128, was: bool, is: bool) -> u128
     if was { sum - size } else { sum + size }
 }
 
-/// What an object of this length uses.
+/// The use of an object of this length.
 pub(crate) fn size_of(length: u64) -> u128
     ensures { result ≡ length + WORD_USE }
 {

@@ -44,7 +44,7 @@ impl Model for Ledgers {
 }
 
 impl Ledgers {
-    /// No tenants.
+    /// Without tenants.
     pub(crate) fn new(alloc: Global) -> Ledgers
         ensures { result ≡ map.empty }
     {
@@ -67,7 +67,7 @@ impl Ledgers {
         self.tenants.get(tenant)
     }
 
-    /// Adds a tenant whose ledger has no words, unless it is there.
+    /// Adds a tenant whose ledger has no words, unless it exists.
     pub(crate) fn add(
         &mut self,
         alloc: Global,
@@ -89,7 +89,7 @@ impl Ledgers {
         }
     }
 
-    /// The objects of these entries are staged for a tenant, in order, all or none.
+    /// Stages the objects of these entries for a tenant, in order, all or none.
     pub(crate) fn stage(
         &mut self,
         table: &mut Table,
@@ -115,7 +115,7 @@ impl Ledgers {
         Ok(())
     }
 
-    /// The objects of these entries come to be seen by a tenant, all or none.
+    /// A tenant comes to see the objects of these entries, all or none.
     pub(crate) fn see(
         &mut self,
         table: &mut Table,
@@ -141,7 +141,7 @@ impl Ledgers {
         Ok(())
     }
 
-    /// What a tenant has staged becomes visible to it. It takes no memory.
+    /// The tenant sees what it has staged. It allocates nothing.
     pub(crate) fn publish(&mut self, table: &Table, tenant: &TenantName)
         requires held { AreHeld table.now.entries self.old }
         ensures held { AreHeld table.now.entries self.new }
@@ -155,7 +155,7 @@ impl Ledgers {
         own.publish();
     }
 
-    /// What a tenant has staged goes. It takes no memory.
+    /// The tenant has staged nothing. It allocates nothing.
     pub(crate) fn discard(&mut self, table: &mut Table, tenant: &TenantName)
         requires held { AreHeld table.old.entries self.old }
         ensures held { AreHeld table.new.entries self.new }
@@ -171,7 +171,7 @@ impl Ledgers {
         discard(table, own);
     }
 
-    /// Of what a tenant sees, keeps these names alone. It takes no memory.
+    /// Of what a tenant sees, only the objects of these names stay. It allocates nothing.
     pub(crate) fn keep_only<N: NameSet>(
         &mut self,
         table: &mut Table,

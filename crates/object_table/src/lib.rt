@@ -1,7 +1,7 @@
-//! One table of objects: each name that is stored or held has a row with a number that stays, and what a
-//! tenant sees and has staged are two sets of these numbers.
-//! A name's number of holders is that of the ledgers that have a word of it. Contracts see names, words and
-//! places; no number is seen from outside.
+//! One table of objects. Each name that is stored or held has a row with a fixed number, and what a tenant sees and has
+//! staged are two sets of these numbers.
+//! The number of holders of a name is the number of ledgers that have a word of it. Contracts see names, words and
+//! places, and no numbers.
 #![tactic(auto)]
 
 mod coming;

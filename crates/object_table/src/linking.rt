@@ -1,12 +1,12 @@
-// What the objects of names lead to, by their numbers.
+// The links of objects, by the numbers of their names.
 ghost use Rattle.std.specs.Prelude.{◌≡◌, ◌⊎◌, ℕ, List, [], Contains, Some, IfOk, IfSome, OnOk, false, is_some, map as mapped, true};
 ghost use Rattle.std.specs.FinMap.{contains_key, get};
 ghost use Rattle.std.specs.HashSet.{contains};
 ghost use Rattle.std.specs.Option.{option_map_or};
 ghost use Rattle.git_name.specs.Same.{same_name};
-ghost use Rattle.number_links.specs.Known.{known};
+ghost use Rattle.number_links.specs.Facts.{Learned, nothing};
 ghost use Rattle.number_sets.specs.Numbers.{has};
-ghost use Rattle.object_table.specs.Links.{AreLinks, leads_nowhere, named_links, numbered_name, rests_in};
+ghost use Rattle.object_table.specs.Links.{AreLinks, leads_nowhere, named_links, next_named, numbered_name, parents_named, rests_in};
 ghost use Rattle.object_table.specs.Rows.{IsUsed, row_in};
 ghost use Rattle.object_table.specs.Views.{IsOwn, words_of};
 ghost use Rattle.object_table.specs.Walked.{IsBetween, IsMet};
@@ -21,7 +21,7 @@ use number_links::{Graph, Resting};
 use number_sets::NumberSet;
 use std::alloc::{AllocError, Global};
 
-// Whether an object of this kind leads to no other.
+// Whether an object of this kind has no links.
 fn is_leaf(kind: Kind) -> bool
     ensures { result ≡ leads_nowhere kind }
 {
@@ -65,7 +65,7 @@ pub(crate) fn numbers_of(
     Ok(Some(numbers))
 }
 
-// Puts the number of a name behind others, if it has one.
+// Appends the number of a name, if it has one.
 fn put_number(table: &Table, name: Name, numbers: &mut Vec<u32>) -> Result<(), AllocError>
     ensures only { OnOk result ((n : ℕ) → Contains numbers.new.items n → Contains numbers.old.items n ⊎ (IsUsed table.now.entries n × (numbered_name table.now.entries n ≡ name))) }
     ensures kept { OnOk result ((n : ℕ) → Contains numbers.old.items n → Contains numbers.new.items n) }
@@ -113,8 +113,8 @@ fn names_of(
     Ok(names)
 }
 
-// The names of what is seen that links lead to from the wanted ones, and from none of the excluded ones;
-// nothing where an object on the way is met of which it is not known what it leads to.
+// The names of what is seen that the wanted ones reach and the excluded ones do not; `None` if the links of an object on
+// the way are not known.
 pub(crate) fn names_between(
     alloc: Global,
     table: &Table,
@@ -125,9 +125,9 @@ pub(crate) fn names_between(
 ) -> Result<Option<IndexSet<Name, Hashing>>, AllocError>
     requires own { IsOwn table.now.entries own.now }
     requires linked { AreLinks table.now.entries links.now }
-    ensures only { IfOk result (λ found. IfSome found (λ names. (name : List ℕ) → contains same_name names name ≡ true → IsBetween (words_that is_visible (words_of table.now.entries own.now)) (named_links table.now.entries links.now) wanted.now excluded.now name)) }
-    ensures all { IfOk result (λ found. IfSome found (λ names. (name : List ℕ) → IsBetween (words_that is_visible (words_of table.now.entries own.now)) (named_links table.now.entries links.now) wanted.now excluded.now name → contains same_name names name ≡ true)) }
-    ensures known { IfOk result (λ found. IfSome found (λ names. (name : List ℕ) → IsMet (words_that is_visible (words_of table.now.entries own.now)) (named_links table.now.entries links.now) wanted.now excluded.now name → (option_map_or (λ word. leads_nowhere word.kind) (get (words_that is_visible (words_of table.now.entries own.now)) name) false ≡ true) ⊎ (contains_key (named_links table.now.entries links.now) name ≡ true))) }
+    ensures only { IfOk result (λ found. IfSome found (λ names. (name : List ℕ) → contains same_name names name ≡ true → IsBetween (words_that is_visible (words_of table.now.entries own.now)) (next_named (named_links table.now.entries links.now)) wanted.now excluded.now name)) }
+    ensures all { IfOk result (λ found. IfSome found (λ names. (name : List ℕ) → IsBetween (words_that is_visible (words_of table.now.entries own.now)) (next_named (named_links table.now.entries links.now)) wanted.now excluded.now name → contains same_name names name ≡ true)) }
+    ensures known { IfOk result (λ found. IfSome found (λ names. (name : List ℕ) → IsMet (words_that is_visible (words_of table.now.entries own.now)) (next_named (named_links table.now.entries links.now)) wanted.now excluded.now name → (option_map_or (λ word. leads_nowhere word.kind) (get (words_that is_visible (words_of table.now.entries own.now)) name) false ≡ true) ⊎ (contains_key (named_links table.now.entries links.now) name ≡ true))) }
 {
     table.invariant();
     let from = numbers_there(alloc, table, wanted)?;
@@ -146,8 +146,40 @@ pub(crate) fn names_between(
     Ok(Some(names))
 }
 
-// All that these names lead to is kept, so that it need not be walked again, if all of it is seen and known. What
-// leads to no other is known to from then on.
+// The same by parents of commits alone.
+pub(crate) fn names_in_history(
+    alloc: Global,
+    table: &Table,
+    links: &Graph,
+    own: &Ledger,
+    wanted: &[Name],
+    excluded: &[Name],
+) -> Result<Option<IndexSet<Name, Hashing>>, AllocError>
+    requires own { IsOwn table.now.entries own.now }
+    requires linked { AreLinks table.now.entries links.now }
+    ensures only { IfOk result (λ found. IfSome found (λ names. (name : List ℕ) → contains same_name names name ≡ true → IsBetween (words_that is_visible (words_of table.now.entries own.now)) (parents_named (named_links table.now.entries links.now)) wanted.now excluded.now name)) }
+    ensures all { IfOk result (λ found. IfSome found (λ names. (name : List ℕ) → IsBetween (words_that is_visible (words_of table.now.entries own.now)) (parents_named (named_links table.now.entries links.now)) wanted.now excluded.now name → contains same_name names name ≡ true)) }
+    ensures known { IfOk result (λ found. IfSome found (λ names. (name : List ℕ) → IsMet (words_that is_visible (words_of table.now.entries own.now)) (parents_named (named_links table.now.entries links.now)) wanted.now excluded.now name → (option_map_or (λ word. leads_nowhere word.kind) (get (words_that is_visible (words_of table.now.entries own.now)) name) false ≡ true) ⊎ (contains_key (named_links table.now.entries links.now) name ≡ true))) }
+{
+    table.invariant();
+    let wants = numbers_there(alloc, table, wanted)?;
+    let haves = numbers_there(alloc, table, excluded)?;
+    let Some(numbers) = links.history(
+        alloc,
+        own.visible(),
+        table,
+        wants.as_slice(),
+        haves.as_slice(),
+    )?
+    else {
+        return Ok(None);
+    };
+    let names = names_of(alloc, table, &numbers)?;
+    Ok(Some(names))
+}
+
+// Keeps the sets of all that these names reach, so that they need not be walked again, if all of it is seen and the links
+// are known. An object in them that has no links is known to have none from then on.
 pub(crate) fn keep_names(
     alloc: Global,
     table: &Table,
@@ -158,7 +190,7 @@ pub(crate) fn keep_names(
     requires own { IsOwn table.now.entries own.now }
     requires linked { AreLinks table.now.entries links.old }
     ensures linked { AreLinks table.now.entries links.new }
-    ensures links { (q : List ℕ) (to : List (List ℕ)) → get (named_links table.now.entries links.new) q ≡ Some to → (get (named_links table.now.entries links.old) q ≡ Some to) ⊎ ((to ≡ []) × (option_map_or (λ word. leads_nowhere word.kind) (get (words_that is_visible (words_of table.now.entries own.now)) q) false ≡ true)) }
+    ensures links { (q : List ℕ) (one : Learned (List ℕ)) → get (named_links table.now.entries links.new) q ≡ Some one → (get (named_links table.now.entries links.old) q ≡ Some one) ⊎ ((one ≡ nothing) × (option_map_or (λ word. leads_nowhere word.kind) (get (words_that is_visible (words_of table.now.entries own.now)) q) false ≡ true)) }
 {
     table.invariant();
     let Ok(roots) = numbers_there(alloc, table, names) else {

@@ -1,4 +1,4 @@
-// The names of what a tenant sees, and how many they are.
+// The names of what a tenant sees, and their number.
 ghost use Rattle.std.specs.Prelude.{◌≡◌, IfOk, ℕ, List, false};
 ghost use Rattle.std.specs.FinMap.{contains_key, keys, len};
 ghost use Rattle.std.specs.List.{IsDistinct};

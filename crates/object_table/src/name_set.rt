@@ -9,7 +9,7 @@ pub trait NameSet {
     /// Which names are in it.
     ghost names: { Self → List ℕ → Bool };
 
-    /// Whether this name is in it. It may be looked for near the last places first.
+    /// Whether this name is in it. Names near the last ones may be found faster.
     fn has(&self, nearby: &Nearby, name: Name) -> bool
         ensures { result ≡ names self.now name };
 }

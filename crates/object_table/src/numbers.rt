@@ -1,10 +1,10 @@
-// Numbers of names, those in use first, and where each stands.
+// The numbers of names, those in use first, and the place of each.
 ghost use Rattle.std.specs.Prelude.{◌≡◌, ◌<◌, ◌≤◌, ℕ, List, length, get_or, nat_eq, OnOk, if◌then◌else◌};
 ghost use Rattle.object_table.specs.Numbers.{AreNoted};
 
 use std::alloc::AllocError;
 
-// Sees to it that there is a number at this place. Those that are there stay, whatever the result.
+// Makes sure that there is a number at this place. Existing ones stay, whatever the result.
 pub(crate) fn extend(
     numbers: &mut Vec<u32>,
     places: &mut Vec<u32>,
@@ -32,7 +32,7 @@ pub(crate) fn extend(
     Ok(())
 }
 
-// Two numbers change their places.
+// Swaps the places of two numbers.
 pub(crate) fn switch(numbers: &mut Vec<u32>, places: &mut Vec<u32>, at: usize, last: usize)
     requires noted { AreNoted numbers.old.items places.old.items }
     requires at { at < length numbers.old.items }

@@ -12,7 +12,7 @@ use crate::row::Row;
 use git_name::{Hashing, Name};
 use indexmap::IndexMap;
 
-// Puts a new name at the last place, where there is room. It takes no memory.
+// Appends a new name, for which there is room. It allocates nothing.
 pub(crate) fn put_last(rows: &mut IndexMap<Name, Row, Hashing>, name: Name, row: Row)
     requires absent { lookup (same_name name) rows.old.entries ≡ None }
     requires room { 0 < spare rows.old }
@@ -34,7 +34,7 @@ pub(crate) fn entry_at(rows: &IndexMap<Name, Row, Hashing>, at: usize) -> Option
     }
 }
 
-// Writes the row at a place anew.
+// Replaces the row at a place.
 pub(crate) fn write_at(rows: &mut IndexMap<Name, Row, Hashing>, at: usize, row: Row)
     requires { at < length rows.old.entries }
     ensures keys { keys_of rows.new.entries ≡ keys_of rows.old.entries }
@@ -48,7 +48,7 @@ pub(crate) fn write_at(rows: &mut IndexMap<Name, Row, Hashing>, at: usize, row: 
     *old = row;
 }
 
-// Takes out the name at a place, which the last name takes.
+// Removes the name at a place. The last name takes its place.
 pub(crate) fn take_out(rows: &mut IndexMap<Name, Row, Hashing>, at: usize)
     requires { at < length rows.old.entries }
     ensures entries { (p : List ℕ × Row) → slice_get rows.old.entries at ≡ Some p → rows.new.entries ≡ swap_remove rows.old.entries at p }
@@ -58,7 +58,7 @@ pub(crate) fn take_out(rows: &mut IndexMap<Name, Row, Hashing>, at: usize)
     rows.swap_remove_index(at);
 }
 
-// Where a look falls.
+// The place of the next look.
 pub(crate) fn looked_place(place: usize, len: usize) -> usize
     ensures { result ≡ (if nat_lt place len then place else 0) }
 {

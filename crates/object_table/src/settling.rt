@@ -1,4 +1,4 @@
-// How the object of one name stands with one tenant, and who is counted as holding it.
+// How the object of one name stands with one tenant, and the number of its holders.
 ghost use Rattle.std.specs.Prelude.{◌≡◌, ◌<◌, ◌+◌, ◌^◌, ◌||◌, ℕ, List, true, false, nat_eq, Some, IfSome, IfNone, if◌then◌else◌};
 ghost use Rattle.std.specs.FinMap.{get};
 ghost use Rattle.git_name.specs.Same.{same_name};
@@ -46,7 +46,7 @@ fn either(a: bool, b: bool) -> bool
     a || b
 }
 
-// A number of holders, as one of them comes or goes.
+// A number of holders, after one was added or removed.
 fn counted(count: usize, held: bool, holds: bool) -> usize
     requires fits { held ≡ false → holds ≡ true → count + 1 < 2 ^ 64 }
     requires there { held ≡ true → 0 < count }
@@ -58,7 +58,7 @@ fn counted(count: usize, held: bool, holds: bool) -> usize
     if held { count - 1 } else { count + 1 }
 }
 
-// The object of a row comes to stand so with a tenant. It takes no memory.
+// Sets how the object of a row stands with a tenant. It allocates nothing.
 pub(crate) fn settle(table: &mut Table, own: &mut Ledger, row: Row, visible: bool, staged: bool)
     requires there { (name : List ℕ) × (row_in table.old.entries name ≡ Some row) }
     requires one { IsOne table.old.entries own.old }

@@ -2,7 +2,7 @@
 #[derive(Clone, Copy, Debug, PartialEq, Eq)]
 pub enum StageFault {
     Memory,
-    /// Somebody holds an object of one of the names that is of another kind or length, or two of one name
-    /// that came are.
+    /// A tenant holds an object of one of the names with another kind or length, or two of the objects have one name and
+    /// differ in these.
     Clash,
 }

@@ -1,4 +1,4 @@
-// Objects that come to be staged or seen by one tenant: the room is made first.
+// Stages objects for one tenant, or has it see them. Room is reserved first.
 ghost use Rattle.std.specs.Prelude.{◌≡◌, true, ℕ, OnErr, OnOk};
 ghost use Rattle.std.specs.List.{All};
 ghost use Rattle.number_sets.specs.Numbers.{has_room};
@@ -14,7 +14,7 @@ use crate::settling::settle;
 use crate::table::Table;
 use std::alloc::AllocError;
 
-// Room for the number of an entry's name. The tenant's objects stay as they are.
+// Reserves room for the number of an entry's name. The tenant's objects stay as they are.
 fn reserve(table: &Table, own: &mut Ledger, entry: Entry) -> Result<(), AllocError>
     ensures same { SameSets own.old own.new }
     ensures ok { OnOk result (HasRoom table.now.entries own.new entry.name) }
@@ -27,7 +27,7 @@ fn reserve(table: &Table, own: &mut Ledger, entry: Entry) -> Result<(), AllocErr
     own.reserve(row.number)
 }
 
-// The same of entries.
+// The same for entries.
 fn reserve_all(table: &Table, own: &mut Ledger, entries: &[Entry]) -> Result<(), AllocError>
     ensures same { SameSets own.old own.new }
     ensures ok { OnOk result (All (λ entry. HasRoom table.now.entries own.new entry.name) entries.now) }
@@ -38,7 +38,7 @@ fn reserve_all(table: &Table, own: &mut Ledger, entries: &[Entry]) -> Result<(),
     Ok(())
 }
 
-// The object of an entry is staged. It takes no memory.
+// Stages the object of an entry. It allocates nothing.
 fn stage_one(table: &mut Table, own: &mut Ledger, entry: Entry)
     requires row { HasRow table.old.entries entry }
     requires one { IsOne table.old.entries own.old }
@@ -57,7 +57,7 @@ fn stage_one(table: &mut Table, own: &mut Ledger, entry: Entry)
     settle(table, own, row, seen, true);
 }
 
-// The object of an entry comes to be seen. It takes no memory.
+// Has the object of an entry seen. It allocates nothing.
 fn see_one(table: &mut Table, own: &mut Ledger, entry: Entry)
     requires row { HasRow table.old.entries entry }
     requires one { IsOne table.old.entries own.old }
@@ -76,7 +76,7 @@ fn see_one(table: &mut Table, own: &mut Ledger, entry: Entry)
     settle(table, own, row, true, staged);
 }
 
-// The objects of these entries are staged, in order, all or none.
+// Stages the objects of these entries, in order, all or none.
 pub(crate) fn stage_entries(
     table: &mut Table,
     own: &mut Ledger,
@@ -97,7 +97,7 @@ pub(crate) fn stage_entries(
     Ok(())
 }
 
-// The objects of these entries come to be seen, all or none.
+// Has the objects of these entries seen, all or none.
 pub(crate) fn see_entries(
     table: &mut Table,
     own: &mut Ledger,

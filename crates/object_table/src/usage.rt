@@ -1,2 +1,2 @@
-/// The bytes of use that an object counts for beside its length.
+/// The use of an object beside its length, in bytes.
 pub const WORD_USE: u64 = 64;

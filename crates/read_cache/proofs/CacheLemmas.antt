@@ -1,7 +1,7 @@
 -- Entries of a cache.
-use Rattle.std.proofs.Common.{◌≡◌, ◌≢◌, ◌⊎◌, inl, inr, ℕ, zero, suc, List, [], ◌∷◌, Bool, true, false, cond, Contains, Option, Some, None, Result, Ok, Err, refl, sym, ap, subst, ◌∙◌, arith}
+use Rattle.std.proofs.Common.{◌≡◌, ◌≢◌, ◌≤◌, ◌⊎◌, inl, inr, ℕ, length, zero, suc, List, [], ◌∷◌, Bool, true, false, cond, Contains, Option, Some, None, Result, Ok, Err, refl, sym, ap, subst, ◌∙◌, arith}
 use Rattle.std.specs.Result.{OnOk, OnErr}
-use Rattle.read_cache.specs.Cached.{AreNamed}
+use Rattle.read_cache.specs.Cached.{AreFit}
 use Rattle.std.specs.List.{IsDistinct, AllByRecursion}
 use Rattle.std.specs.Map.{keys_of, lookup, remove_entry}
 use Rattle.std.specs.Prelude.{IfSome}
@@ -60,14 +60,19 @@ pub whichever : {T E P Q : Type 0} (G : Type 0) (r : Result T E) → OnOk r P �
 whichever G (Ok x) p q f g = f p
 whichever G (Err e) p q f g = g q
 
-pub put_of : (c : LruCache (List ℕ) Object) (es : List (List ℕ × Object)) (object : Object) (n : List ℕ) (o : Object) → (es ≡ c.entries) ⊎ (es ≡ put_entries same_name c (object_name object) object) → Contains es (n, o)
+pub put_of : (c : LruCache (List ℕ) Object) (es : List (List ℕ × Object)) (object : Object) (n : List ℕ) (o : Object) → (es ≡ c.entries) ⊎ (es ≡ put_entries same_name c (object_name object) object) × (length object.bytes ≤ 65536) → Contains es (n, o)
     → Contains c.entries (n, o) ⊎ ((n ≡ object_name object) × (o ≡ object))
 put_of c es object n o (inl same) there = inl (subst (λ l. Contains l (n, o)) same there)
-put_of c es object n o (inr is) there = put_there c object n o (subst (λ l. Contains l (n, o)) is there)
+put_of c es object n o (inr (is, small)) there = put_there c object n o (subst (λ l. Contains l (n, o)) is there)
 
-pub named_of : (old : List (List ℕ × Object)) (object : Object) (n : List ℕ) (o : Object) → AreNamed old → Contains old (n, o) ⊎ ((n ≡ object_name object) × (o ≡ object)) → object_name o ≡ n
-named_of old object n o named (inl was) = named n o was
-named_of old object n o named (inr (key, is)) = ap object_name is ∙ sym key
+-- what is cached stays fit where a small object is put
+pub fit_of : (c : LruCache (List ℕ) Object) (es : List (List ℕ × Object)) (object : Object) → (es ≡ c.entries) ⊎ (es ≡ put_entries same_name c (object_name object) object) × (length object.bytes ≤ 65536) → AreFit c.entries → AreFit es
+fit_of c es object (inl same) fit n o there = fit n o (subst (λ l. Contains l (n, o)) same there)
+fit_of c es object (inr (is, small)) fit n o there = by (put_there c object n o (subst (λ l. Contains l (n, o)) is there))
+  where
+    by : Contains c.entries (n, o) ⊎ ((n ≡ object_name object) × (o ≡ object)) → (object_name o ≡ n) × (length o.bytes ≤ 65536)
+    by (inl was) = fit n o was
+    by (inr (key, same)) = (ap object_name same ∙ sym key, subst (λ (x : Object). length x.bytes ≤ 65536) (sym same) small)
 
 pub some_more : {A : Type 0} (P Q : A → Type 0) (o : Option A) → ((x : A) → P x → Q x) → IfSome o P → IfSome o Q
 some_more P Q None f h = tt

@@ -1,5 +1,5 @@
 -- What a cache of objects has (own).
-use Rattle.std.specs.Prelude.{◌≡◌, ℕ, Bool, true, IsTrue, List, Option, None, Some, Contains}
+use Rattle.std.specs.Prelude.{◌≡◌, ◌≤◌, ℕ, Bool, true, IsTrue, List, Option, None, Some, Contains, length}
 use Rattle.std.specs.Coded.{Coded, coded×, coded_list, coded_ℕ}
 use Rattle.std.specs.FinMap.{get}
 use Rattle.git_name.specs.Object.{Object, object_name, typed_bytes}
@@ -15,9 +15,9 @@ Cached = List (List ℕ × Object)
 abbrev pub cached_code : Coded Cached
 cached_code = coded_list (coded× (coded_list coded_ℕ) sealed.the_row.coded)
 
--- each object stands under its own name
-abbrev pub AreNamed : Cached → Type 0
-AreNamed entries = (name : List ℕ) (object : Object) → Contains entries (name, object) → object_name object ≡ name
+-- each object is under its own name, and has at most 65,536 bytes
+abbrev pub AreFit : Cached → Type 0
+AreFit entries = (name : List ℕ) (object : Object) → Contains entries (name, object) → (object_name object ≡ name) × (length object.bytes ≤ 65536)
 
 -- each object stands whole on the store
 abbrev pub AreWhole : Cached → Files → Type 0

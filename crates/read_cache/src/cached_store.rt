@@ -14,9 +14,9 @@ use loose_store::{FileFault, LooseFiles, StoreFault, content_of, one_object, rea
 use std::alloc::{AllocError, Global};
 use std::marker::Model;
 
-/// A store, the objects that were read from it last, and what a survey of it found. Seen from outside it
-/// is the store alone; over an honest one each object that is kept or was surveyed stands whole in its
-/// file. Of a store that was fresh each file was put here, whole, and is not hashed again.
+/// A store with a cache of the objects that were read last, and with what a survey of it found. Its value is that
+/// of the store. Over an honest store, the whole file of each cached or surveyed object is there. If the store
+/// was fresh, every file in it was written here, whole, so it is not hashed again.
 #[derive(Drop)]
 pub struct CachedStore<S: LooseFiles> {
     files: S,
@@ -45,7 +45,7 @@ impl<S: LooseFiles> Model for CachedStore<S> {
 }
 
 impl<S: LooseFiles + Drop> CachedStore<S> {
-    /// Over this store, with nothing kept.
+    /// Over this store, with an empty cache.
     pub fn new(alloc: Global, files: S) -> Result<CachedStore<S>, AllocError>
         ensures contents { IfOk result (λ store. store.contents ≡ S.contents files) }
         ensures honest { IfOk result (λ store. store.honest ≡ S.honest files) }
@@ -73,13 +73,13 @@ impl<S: LooseFiles> CachedStore<S> {
         self.files
     }
 
-    /// How names of its files are to be hashed.
+    /// How to hash the names of its files.
     pub fn hashing(&self) -> Hashing {
         self.files.hashing()
     }
 
-    /// The object of this name, if a file stands there, and a copy of it where it is kept. What is read
-    /// from the store is kept.
+    /// The object of this name, if there is a file for it, from the cache or from the store. What is read from the
+    /// store is cached.
     pub fn read(&mut self, alloc: Global, name: Name) -> Result<Option<Sealed>, StoreFault>
         ensures reads { IsTrue self.old.honest → ReadsTo self.old.contents name result }
         ensures kept { IsTrue self.old.honest → self.new.contents ≡ self.old.contents }
@@ -91,8 +91,8 @@ impl<S: LooseFiles> CachedStore<S> {
         read_through(alloc, &mut self.files, &mut self.cache, self.is_sure, name)
     }
 
-    /// The object of this name, its kind and its bytes, lent where its file lies in memory and need not be
-    /// hashed; nothing where it has to be read.
+    /// The kind and the bytes of the object of this name, borrowed if its file is in memory and need not be
+    /// hashed; `None` if it has to be read.
     pub fn lend(&self, name: Name) -> Option<(Kind, &[u8])>
         ensures { IfSome result (λ lent. IsTrue self.now.honest × Whole self.now.contents name (record { kind = lent.0; bytes = lent.1.now })) }
     {
@@ -102,7 +102,7 @@ impl<S: LooseFiles> CachedStore<S> {
         lent(&self.files, name)
     }
 
-    /// The same as `read`, asked of the store alone. Nothing is kept.
+    /// The same as `read`, but only from the store, and without caching it.
     pub fn read_past(&mut self, alloc: Global, name: Name) -> Result<Option<Sealed>, StoreFault>
         ensures reads { IsTrue self.old.honest → ReadsTo self.old.contents name result }
         ensures kept { IsTrue self.old.honest → self.new.contents ≡ self.old.contents }
@@ -116,7 +116,7 @@ impl<S: LooseFiles> CachedStore<S> {
         read_checked(alloc, &mut self.files, name)
     }
 
-    /// The same as `read_past`, and what stands there is noted, so that `knows` tells of it.
+    /// The same as `read_past`, and adds the object to the survey that `knows` looks in.
     pub fn survey(&mut self, alloc: Global, name: Name) -> Result<Option<Sealed>, StoreFault>
         ensures reads { IsTrue self.old.honest → ReadsTo self.old.contents name result }
         ensures kept { IsTrue self.old.honest → self.new.contents ≡ self.old.contents }
@@ -128,15 +128,14 @@ impl<S: LooseFiles> CachedStore<S> {
         read_and_note(alloc, &mut self.files, &mut self.survey, name)
     }
 
-    /// Whether a survey found the object of this name, of this kind and of so many bytes, and no file
-    /// changed since.
+    /// Whether a survey found the object of this name with this kind and length, and no file has changed since.
     pub fn knows(&self, name: Name, kind: Kind, length: u64) -> bool
         ensures { result ≡ true → IsKnown self.now.honest self.now.contents name kind length }
     {
         has(&self.survey, name, kind, length)
     }
 
-    /// Forgets what was surveyed.
+    /// Clears the survey.
     pub fn end_survey(&mut self)
         ensures { self.new ≡ self.old }
     {
@@ -154,7 +153,7 @@ impl<S: LooseFiles> CachedStore<S> {
         self.files.names(alloc)
     }
 
-    /// Writes the file of an object, in the place of one that is there.
+    /// Writes the file of an object, replacing one of its name.
     pub fn put(&mut self, alloc: Global, sealed: Sealed) -> Result<(), FileFault>
         ensures ok { IsTrue self.old.honest → OnOk result (self.new.contents ≡ map.insert self.old.contents (object_name sealed) (typed_bytes sealed)) }
         ensures others { IsTrue self.old.honest → SameBut (object_name sealed) self.old.contents self.new.contents }
@@ -171,7 +170,40 @@ impl<S: LooseFiles> CachedStore<S> {
         Err(fault)
     }
 
-    /// Takes one file away. Where none is there it succeeds and changes nothing.
+    /// The caller relies on the file of this name, which was there: the next `sync` includes it.
+    pub fn rely_on(&mut self, name: Name) -> Result<(), AllocError>
+        ensures { self.new ≡ self.old }
+    {
+        self.files.rely_on(name)
+    }
+
+    /// Makes the files that were put, or relied on, survive a loss of power. After a failure it always fails.
+    pub fn sync(&mut self, alloc: Global) -> Result<(), FileFault>
+        ensures { self.new ≡ self.old }
+    {
+        self.files.sync(alloc)
+    }
+
+    /// Does some of the work of the next `sync`, if that has much to do.
+    pub fn sync_ahead(&mut self, alloc: Global) -> Result<(), FileFault>
+        ensures { self.new ≡ self.old }
+    {
+        self.files.sync_ahead(alloc)
+    }
+
+    /// Whether a removed file would be back if the store were opened again.
+    pub fn has_removed(&self) -> bool {
+        self.files.has_removed()
+    }
+
+    /// Makes removals final. After an `Err` some of the removed files may still come back.
+    pub fn forget_removed(&mut self, alloc: Global) -> Result<(), FileFault>
+        ensures { self.new ≡ self.old }
+    {
+        self.files.forget_removed(alloc)
+    }
+
+    /// Removes a file. If there is none, it succeeds and changes nothing.
     pub fn remove(&mut self, alloc: Global, name: Name) -> Result<(), FileFault>
         ensures ok { IsTrue self.old.honest → OnOk result (self.new.contents ≡ map.remove self.old.contents name) }
         ensures others { IsTrue self.old.honest → SameBut name self.old.contents self.new.contents }
@@ -190,8 +222,7 @@ impl<S: LooseFiles> CachedStore<S> {
 
 ghost use Rattle.read_cache.specs.Cached.{HasWholeFiles, AreWhole, IsFileOf, IsSure, OpensFile};
 
-// The object of a name, out of the cache or from the store. A sure store is as near as the cache, and is
-// asked at once.
+// The object of a name, from the cache or from the store. A sure store is in memory, so it is read directly.
 fn read_through<S: LooseFiles>(
     alloc: Global,
     files: &mut S,
@@ -220,7 +251,7 @@ fn read_through<S: LooseFiles>(
     read_and_keep(alloc, files, cache, name)
 }
 
-// The object of a name, from the store, which is kept.
+// The object of a name, from the store. It is cached.
 fn read_and_keep<S: LooseFiles>(
     alloc: Global,
     files: &mut S,
@@ -245,7 +276,7 @@ fn read_and_keep<S: LooseFiles>(
     }
 }
 
-// The object of a name, lent by a store of which each file is whole.
+// The object of a name, borrowed from a store in which each file is whole.
 fn lent<S: LooseFiles>(files: &S, name: Name) -> Option<(Kind, &[u8])>
     requires honest { IsTrue (S.honest files.now) }
     requires whole { HasWholeFiles (S.contents files.now) }
@@ -255,7 +286,7 @@ fn lent<S: LooseFiles>(files: &S, name: Name) -> Option<(Kind, &[u8])>
     files.lend(name)
 }
 
-// The object of a name, from a store of which each file is whole.
+// The object of a name, from a store in which each file is whole.
 fn read_unhashed<S: LooseFiles>(
     alloc: Global,
     files: &mut S,
@@ -283,7 +314,7 @@ fn read_unhashed<S: LooseFiles>(
     opened(alloc, file.as_slice(), name)
 }
 
-// The object of this kind and content, whose name this is, as a copy.
+// A copy of the object of this kind, content and name.
 fn copied(
     alloc: Global,
     kind: Kind,
@@ -300,7 +331,7 @@ fn copied(
     Ok(Some(seal_as(kind, content, name)))
 }
 
-// The object of this name whose file this is.
+// The object in this file, whose name is known.
 fn opened(alloc: Global, file: &[u8], name: Name) -> Result<Option<Sealed>, StoreFault>
     requires { IsFileOf file.now name }
     ensures opened { IfOk result (OpensFile file.now name) }
@@ -316,7 +347,7 @@ fn opened(alloc: Global, file: &[u8], name: Name) -> Result<Option<Sealed>, Stor
     Ok(Some(seal_as(kind, content, name)))
 }
 
-// The object of a name, from the store, which is noted.
+// The object of a name, from the store. It is added to the survey.
 fn read_and_note<S: LooseFiles>(
     alloc: Global,
     files: &mut S,
@@ -341,7 +372,7 @@ fn read_and_note<S: LooseFiles>(
     }
 }
 
-// Whether it was noted that the object of this name is of this kind and of so many bytes.
+// Whether the survey has the object of this name with this kind and length.
 fn has(survey: &Survey, name: Name, kind: Kind, length: u64) -> bool
     ensures { result ≡ true → map.get survey.now name ≡ Some (kind, length) }
 {

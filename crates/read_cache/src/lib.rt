@@ -1,5 +1,5 @@
-//! A store of objects that keeps what was read last, so that a hot object is read and hashed once for all
-//! who ask. It knows no tenant: who may ask for an object is settled above it.
+//! A store of objects with a cache of what was read last, so that an object that many ask for is read and hashed
+//! once. It knows of no tenant: the layer above decides who may read an object.
 #![tactic(auto)]
 
 mod cached_store;

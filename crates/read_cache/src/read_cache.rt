@@ -1,4 +1,4 @@
-ghost use Rattle.std.specs.Prelude.{◌≡◌, ◌≢◌, ◌⊎◌, ℕ, List, [], Contains, IfOk, IfSome};
+ghost use Rattle.std.specs.Prelude.{◌≡◌, ◌≢◌, ◌≤◌, ◌⊎◌, ℕ, List, [], Contains, IfOk, IfSome, length};
 ghost use Rattle.std.specs.List.{IsDistinct};
 ghost use Rattle.std.specs.Map.{keys_of, lookup, remove_entry};
 ghost use Rattle.lru.specs.LruCache.{promoted, put_entries};
@@ -11,20 +11,21 @@ use std::alloc::{AllocError, Global};
 use std::marker::Model;
 use std::num::NonZeroUsize;
 
-/// So many objects are kept at the most.
+/// The largest number of objects in the cache.
 pub const MOST: usize = 256;
 
-/// An object is kept only if its content has so many bytes at the most.
+/// The longest content of an object in the cache, in bytes.
 pub const LARGEST: usize = 65536;
 
-/// The objects that were read last, if they are not large.
+/// The objects that were read last, except large ones.
 #[derive(Drop)]
 pub struct ReadCache {
     kept: LruCache<Name, Sealed>,
 }
 
 impl Model for ReadCache {
-    ghost use Rattle.read_cache.specs.Cached.{AreNamed, Cached, cached_code};
+    ghost use Rattle.std.specs.Prelude.{◌≡◌};
+    ghost use Rattle.read_cache.specs.Cached.{AreFit, Cached, cached_code};
 
     ghost Value = { Cached };
 
@@ -32,11 +33,11 @@ impl Model for ReadCache {
 
     ghost view = { λ a. a.kept.entries };
 
-    ghost invariant = { λ a. AreNamed a.kept.entries };
+    ghost invariant = { λ a. AreFit a.kept.entries × (a.kept.cap ≡ 256) };
 }
 
 impl ReadCache {
-    /// No objects, and room for `MOST`.
+    /// An empty cache with room for `MOST` objects.
     pub fn new(alloc: Global) -> Result<ReadCache, AllocError>
         ensures { IfOk result (λ cache. cache ≡ []) }
     {
@@ -46,7 +47,7 @@ impl ReadCache {
         })
     }
 
-    /// A copy of the object of a name, which becomes the most recently used.
+    /// A copy of the object of a name. It becomes the most recently used.
     pub fn find(&mut self, name: Name) -> Result<Option<Sealed>, AllocError>
         ensures found { IfOk result (λ found. IfSome found (λ sealed. Contains self.old (name, sealed))) }
         ensures named { IfOk result (λ found. IfSome found (λ sealed. object_name sealed ≡ name)) }
@@ -55,14 +56,23 @@ impl ReadCache {
         cached(&mut self.kept, name)
     }
 
-    /// Keeps a copy of an object, if it is not large and there is memory for it.
+    /// How much every cache holds at most. It does nothing; proofs call it for its clauses.
+    pub fn bounds(&self)
+        ensures few { length self.now ≤ 256 }
+        ensures small { (n : List ℕ) (o : Object) → Contains self.now (n, o) → length o.bytes ≤ 65536 }
+    {
+        let _kept = &self.kept;
+        let _count = self.kept.len();
+    }
+
+    /// Caches a copy of an object, if it is not large and there is memory for it.
     pub fn keep(&mut self, sealed: &Sealed)
         ensures { (n : List ℕ) (o : Object) → Contains self.new (n, o) → Contains self.old (n, o) ⊎ ((n ≡ object_name sealed.now) × (o ≡ sealed.now)) }
     {
         put(&mut self.kept, sealed);
     }
 
-    /// Lets the object of a name go.
+    /// Removes the object of a name.
     pub fn forget(&mut self, name: Name)
         ensures { (n : List ℕ) (o : Object) → Contains self.new (n, o) → Contains self.old (n, o) × (n ≢ name) }
     {
@@ -73,6 +83,7 @@ impl ReadCache {
 fn cached(kept: &mut LruCache<Name, Sealed>, name: Name) -> Result<Option<Sealed>, AllocError>
     ensures found { IfOk result (λ found. found ≡ lookup (same_name name) kept.old.entries) }
     ensures entries { kept.new.entries ≡ promoted (same_name name) kept.old.entries }
+    ensures cap { kept.new.cap ≡ kept.old.cap }
 {
     match kept.get(&name) {
         Some(sealed) => Ok(Some(sealed.clone()?)),
@@ -81,7 +92,8 @@ fn cached(kept: &mut LruCache<Name, Sealed>, name: Name) -> Result<Option<Sealed
 }
 
 fn put(kept: &mut LruCache<Name, Sealed>, sealed: &Sealed)
-    ensures { (kept.new.entries ≡ kept.old.entries) ⊎ (kept.new.entries ≡ put_entries same_name kept.old (object_name sealed.now) sealed.now) }
+    ensures put { (kept.new.entries ≡ kept.old.entries) ⊎ (kept.new.entries ≡ put_entries same_name kept.old (object_name sealed.now) sealed.now) × (length sealed.now.bytes ≤ 65536) }
+    ensures cap { kept.new.cap ≡ kept.old.cap }
 {
     if sealed.bytes().len() > LARGEST {
         return;
@@ -95,6 +107,7 @@ fn put(kept: &mut LruCache<Name, Sealed>, sealed: &Sealed)
 fn drop_name(kept: &mut LruCache<Name, Sealed>, name: Name)
     ensures entries { kept.new.entries ≡ remove_entry (same_name name) kept.old.entries }
     ensures distinct { IsDistinct same_name (keys_of kept.old.entries) }
+    ensures cap { kept.new.cap ≡ kept.old.cap }
 {
     let _count = kept.len();
     kept.pop(&name);

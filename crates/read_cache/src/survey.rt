@@ -10,8 +10,7 @@ use std::alloc::{AllocError, Global};
 use std::collections::BTreeMap;
 use std::marker::Model;
 
-// What was read of a store and stands whole on it: the kind and the length of each object, under its
-// name.
+// The kind and the length of each object that was read from a store and is whole there, under its name.
 #[derive(Drop)]
 pub(crate) struct Survey {
     seen: BTreeMap<Name, (Kind, u64)>,
@@ -29,7 +28,7 @@ impl Model for Survey {
 }
 
 impl Survey {
-    // Of no objects.
+    // An empty survey.
     pub(crate) fn new(alloc: Global) -> Survey
         ensures { result ≡ map.empty }
     {
@@ -38,7 +37,7 @@ impl Survey {
         }
     }
 
-    // Notes an object.
+    // Adds an object.
     pub(crate) fn note(&mut self, sealed: &Sealed) -> Result<(), AllocError>
         ensures ok { OnOk result (self.new ≡ map.insert self.old (object_name sealed.now) (sealed.now.kind, length sealed.now.bytes)) }
         ensures err { OnErr result (self.new ≡ self.old) }
@@ -51,14 +50,14 @@ impl Survey {
         )
     }
 
-    // The kind and the length of the object of this name, where it was noted.
+    // The kind and the length of the object of this name, if the survey has it.
     pub(crate) fn get(&self, name: Name) -> Option<(Kind, u64)>
         ensures { result ≡ map.get self.now name }
     {
         self.seen.get(&name).copied()
     }
 
-    // Forgets all that was noted.
+    // Clears the survey.
     pub(crate) fn end(&mut self)
         ensures { self.new ≡ map.empty }
     {

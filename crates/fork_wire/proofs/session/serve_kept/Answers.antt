@@ -1,6 +1,6 @@
 use Rattle.std.proofs.Common.{refl, ◌∙◌}
 use Rattle.std.proofs.lemmas.Result.{err_from_is_err_and}
-use Rattle.fork_wire.proofs.Ending.{bad_end, clean_end, served_alone, spent, stopped_alone, stopped_kept, unread, untold}
+use Rattle.fork_wire.proofs.Ending.{at_end, at_fault, bad_end, clean_end, served_alone, spent, stopped_alone, stopped_kept, unread, untold}
 use Rattle.fork_wire.proofs.Going.{going_more, not_yet, unsent, unsent_kept}
 use Rattle.fork_wire.proofs.session.serve_kept.Goals as goal
 
@@ -10,6 +10,7 @@ loop-init g c = record {
   orderly = c.invariant.ensures.whole.orderly;
   right = c.invariant.ensures.whole.right;
   going = not_yet _ _ _ _;
+  synced = λ synced. synced;
   whole = refl;
 }
 
@@ -22,6 +23,7 @@ loop-preserved g c = record {
       let frame = rw c.in-Ok-Frame.field-0-is at c.in-Ok-Frame.ensures.next in
       going_more _ _ _ _ _ _ _ _ _ _ _ _ c.in-Ok-Frame.frame c.answer_kept-reply.result.0 c.loop.invariant.going frame.0 frame.1 c.answer_kept-reply.ensures.step c.in_ok-send_kept.ensures.ok
       (c.answer_kept-reply.ensures.kept c.in_ok-send_kept.ensures.kept);
+  synced = λ synced. c.answer_kept-reply.ensures.synced c.in_ok-send_kept.ensures.kept (c.loop.invariant.synced synced);
   whole = c.answer_kept-reply.ensures.whole c.in_ok-send_kept.ensures.kept ∙ c.loop.invariant.whole;
 }
 
@@ -85,3 +87,23 @@ returns-clause-kept_so_far g c other = spent _ _ _ _ _ _ _ _ c.loop.invariant.go
 
 pub returns-clause-stopped : goal.returns-clause-stopped
 returns-clause-stopped g c = (spent _ _ _ _ _ _ _ _ c.loop.invariant.going).0
+
+pub returns-in-Ok-End-clause-synced : goal.returns-in-Ok-End-clause-synced
+returns-in-Ok-End-clause-synced g c = c.loop.invariant.synced
+
+pub returns-in-Ok-Bad-clause-synced : goal.returns-in-Ok-Bad-clause-synced
+returns-in-Ok-Bad-clause-synced g c = at_end _ c.end_badly.result c.loop.invariant.synced
+
+pub returns-in-Ok-Bad-clause-synced_so_far : goal.returns-in-Ok-Bad-clause-synced_so_far
+returns-in-Ok-Bad-clause-synced_so_far g c = at_fault _ c.end_badly.result c.loop.invariant.synced
+
+pub returns-in-Err-clause-synced_so_far : goal.returns-in-Err-clause-synced_so_far
+returns-in-Err-clause-synced_so_far g c other = c.loop.invariant.synced
+
+pub returns-in_err-send_kept-clause-synced_so_far : goal.returns-in_err-send_kept-clause-synced_so_far
+returns-in_err-send_kept-clause-synced_so_far g c =
+    let told = err_from_is_err_and c.from_residual.result c.from_residual.ensures.1 in
+    rw (told.1, told.2) (λ other synced. c.answer_kept-reply.ensures.synced (c.in_err-send_kept.ensures.was_kept other) (c.loop.invariant.synced synced))
+
+pub returns-clause-synced_so_far : goal.returns-clause-synced_so_far
+returns-clause-synced_so_far g c other = c.loop.invariant.synced

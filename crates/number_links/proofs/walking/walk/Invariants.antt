@@ -1,6 +1,7 @@
 use Rattle.std.proofs.Common.{◌+◌, length}
 use Rattle.number_sets.specs.Numbers.{has}
-use Rattle.number_links.specs.Known.{RestsOrIsKnown, linked}
+use Rattle.number_links.specs.Facts.{goes_on}
+use Rattle.number_links.specs.Known.{RestsOrIsKnown}
 use Rattle.number_links.specs.Reach.{past}
 use Rattle.number_links.specs.Seeing.{unseen}
 use Rattle.number_links.proofs.WalkLemmas.{Walks}
@@ -10,7 +11,7 @@ use Rattle.number_links.proofs.walking.walk.Given as goal
 abbrev pub invariant-waiting : goal.invariant-waiting
 invariant-waiting g l =
     let rests = g.R.Resting.rests l.resting in
-    Walks (RestsOrIsKnown l.links rests) (linked l.links) (past (has l.allowed) (has l.hidden)) l.roots (has l.seen) l.waiting.items
+    Walks (RestsOrIsKnown l.links rests) (goes_on l.along (record { links = l.links; times = l.times })) (past (has l.allowed) (has l.hidden)) l.roots (has l.seen) l.waiting.items
 
 -- the numbers that may be gone to and are not seen, and those that wait
 abbrev pub decreases-waiting : goal.decreases-waiting

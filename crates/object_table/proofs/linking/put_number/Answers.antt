@@ -1,11 +1,9 @@
-use Rattle.std.proofs.Common.{◌≡◌, ◌⊎◌, inl, inr, ℕ, List, Some, sym, subst, ap, ◌∙◌, None}
+use Rattle.std.proofs.Common.{◌≡◌, ◌⊎◌, inl, inr, ℕ, List, sym, subst, ap, ◌∙◌}
 use Rattle.std.specs.Prelude.{Contains}
-use Rattle.std.proofs.lemmas.List.Elements.{Contains-append_left, Contains-push, Contains-push_cases}
-use Rattle.object_table.specs.declared.row.Row.{Row}
+use Rattle.std.proofs.lemmas.List.Elements.{Contains-push_cases}
 use Rattle.object_table.specs.Links.{numbered_name}
-use Rattle.object_table.specs.Rows.{IsUsed, Rows, row_in}
+use Rattle.object_table.specs.Rows.{IsUsed, Rows}
 use Rattle.object_table.proofs.LinkLemmas.{named_is}
-use Rattle.object_table.proofs.RowLemmas.{none_is_some}
 use Rattle.object_table.proofs.linking.put_number.Goals as goal
 
 pub returns-clause-only : goal.returns-clause-only

@@ -1,30 +1,12 @@
-use Rattle.std.proofs.Common.{◌≡◌, ℕ, List, ◌++◌, ap, refl, sym, ◌∙◌, subst}
-use Rattle.fork_frame.specs.Frame.{frame_bytes}
-use Rattle.fork_connection.specs.Turns.{Hopeless, IsExchange, Talk, peer_of}
-use Rattle.fork_connection.specs.Inbox.{IsHopeless}
-use Rattle.fork_connection.proofs.ConnectionLemmas.{answers, is_quiet, refuses, sends}
+use Rattle.std.proofs.Common.{refl}
+use Rattle.fork_connection.proofs.ConnectionLemmas.{sends, sends_then}
 use Rattle.fork_connection.proofs.connection.Connection.turn.Goals as goal
 
+pub returns-then-is_full-clause-turn : goal.returns-then-is_full-clause-turn
+returns-then-is_full-clause-turn g c = sends _ _ _ _ _ _ c.args.self.now c.send.new.self _ c.send.ensures.pending refl c.send.ensures.sent
+
 pub returns-then-is_owed-clause-turn : goal.returns-then-is_owed-clause-turn
-returns-then-is_owed-clause-turn g c = is_quiet _ _ _ _ _ _ _ (sends _ _ _ c.args.self.now c.send.new.self _ c.send.ensures.pending c.send.ensures.found c.send.ensures.sent) refl
+returns-then-is_owed-clause-turn g c = sends _ _ _ _ _ _ c.args.self.now c.send.new.self _ c.send.ensures.pending refl c.send.ensures.sent
 
-pub returns-in-Ok-Frame-clause-turn : goal.returns-in-Ok-Frame-clause-turn
-returns-in-Ok-Frame-clause-turn g c =
-    let arrives = rw c.in-Ok-Frame.field-0-is at c.in-Ok-Frame.ensures.arrives in
-    let front = frame_bytes c.in-Ok-Frame.frame in
-    answers _ _ _ _ c.in-Ok-Frame.frame _ _ _ c.args.self.now c.answer.new.self _ (c.is_owed.ensures.none c.if-is_owed.false) arrives.0
-    (sym (ap (λ (t : Talk). t.pending) c.self.view_is) ∙ (arrives.1 ∙ ap (λ (p : List ℕ). front ++ p) (sym c.answer.ensures.pending))) c.answer.ensures.replied
-
-pub returns-in-Ok-Bad-clause-turn : goal.returns-in-Ok-Bad-clause-turn
-returns-in-Ok-Bad-clause-turn g c =
-    let arrives = rw c.in-Ok-Bad.field-0-is at c.in-Ok-Bad.ensures.arrives in
-    let pending : c.self.inside.inbox ≡ c.args.self.now.pending = ap (λ (t : Talk). t.pending) c.self.view_is in
-    is_quiet _ _ _ _ _ _ _ (refuses _ _ _ c.args.self.now c.refuse.new.self _ (Hopeless (subst IsHopeless pending arrives.0)) (c.is_owed.ensures.none c.if-is_owed.false)
-    (c.refuse.ensures.pending ∙ (arrives.1 ∙ pending)) c.refuse.ensures.found c.refuse.ensures.sent) refl
-
-pub returns-in-Ok-Part-clause-turn : goal.returns-in-Ok-Part-clause-turn
-returns-in-Ok-Part-clause-turn g c =
-    let arrives = rw c.in-Ok-Part.field-0-is at c.in-Ok-Part.ensures.arrives in
-    let with : List ℕ → Talk = λ p. record { pending = p; waiting = c.self.inside.outbox; is_ending = c.self.inside.is_ending } in
-    let same : with c.take.new.self ≡ c.args.self.now = ap with arrives.1 ∙ c.self.view_is in
-    is_quiet _ _ _ _ _ _ _ (subst (λ (t : Talk). IsExchange (peer_of (g.R.Read.remaining c.args.reader.now) (g.W.Write.contents c.args.writer.now) t) (peer_of (g.R.Read.remaining c.read.new.reader) (g.W.Write.contents c.read.new.writer) c.read.new.self) c.read.result) same c.read.ensures.exchange) refl
+pub returns-clause-turn : goal.returns-clause-turn
+returns-clause-turn g c = sends_then _ _ _ _ _ _ _ _ c.args.self.now c.send.new.self c.take-2.new.self _ c.send.ensures.pending c.send.ensures.sent (c.is_owed-2.ensures.none c.if-is_owed.false) (c.take-2.ensures.turn _)

@@ -1,5 +1,6 @@
 use Rattle.std.proofs.Common.{ap, subst, sym}
 use Rattle.object_table.specs.Rows.{places_of}
+use Rattle.number_links.specs.declared.along.Along.TheVariants.{Links}
 use Rattle.fork_ledger.specs.Kept.{IsKept}
 use Rattle.fork_ledger.proofs.BetweenLemmas.{led_rested}
 use Rattle.fork_ledger.proofs.vault.Vault.keep_reached.Goals as goal
@@ -11,5 +12,5 @@ invariant_of-self g c = λ h.
     let kept = c.self.invariant h in (
       subst (λ catalogue. IsKept c.keep_reached.new.self.ledgers files (places_of catalogue)) (sym c.keep_reached.ensures.catalogue) (subst (λ m. IsKept m files (places_of before.catalogue)) (sym c.keep_reached.ensures.ledgers) kept.0),
       kept.1,
-      led_rested files before.ledgers c.args.tenant.now before.links kept.0.stored kept.2 c.keep_reached.new.self.links c.keep_reached.ensures.links,
+      led_rested files before.ledgers c.args.tenant.now before.links Links kept.0.stored kept.2 c.keep_reached.new.self.links c.keep_reached.ensures.links,
     )

@@ -5,6 +5,7 @@ use Rattle.std.specs.HashSet.{contains}
 use Rattle.std.specs.Option.{option_map_or}
 use Rattle.git_name.specs.Same.{same_name}
 use Rattle.fork_reach.specs.Reach.{is_between, linked_names}
+use Rattle.number_links.specs.declared.along.Along.TheVariants.{Links}
 use Rattle.object_table.specs.declared.word.Word.{Word}
 use Rattle.object_table.specs.Links.{leads_nowhere}
 use Rattle.object_table.specs.Walked.{IsBetween, IsMet}
@@ -21,7 +22,7 @@ returns-clause-found g c = λ h.
     let links = c.self.inside.holdings.links in
     let kept = c.self.invariant was in
     subst (λ (s : VaultState). IfOk c.between.result (λ known. IfSome known (λ found. (name : List ℕ) → contains same_name found name ≡ is_between (linked_names (private_of s.tenants t).visible) (private_of s.tenants t).visible c.args.wanted.now c.args.excluded.now name))) c.self.view_is
-    (told_each _ _ _ _ c.between.result (λ found only all known name. between_is files m t links kept.0.stored kept.2 c.args.wanted.now c.args.excluded.now known name (contains same_name found name) (only name) (all name)) c.between.ensures.only c.between.ensures.all c.between.ensures.known)
+    (told_each _ _ _ _ c.between.result (λ found only all known name. between_is files m t links Links kept.0.stored kept.2 c.args.wanted.now c.args.excluded.now known name (contains same_name found name) (only name) (all name)) c.between.ensures.only c.between.ensures.all c.between.ensures.known)
 
 pub returns-clause-there : goal.returns-clause-there
 returns-clause-there g c =
@@ -30,7 +31,7 @@ returns-clause-there g c =
     let t = c.args.tenant.now in
     let links = c.self.inside.holdings.links in
     subst (λ (s : VaultState). IfOk c.between.result (λ known. IfSome known (λ found. (name : List ℕ) → contains same_name found name ≡ true → contains_key (private_of s.tenants t).visible name ≡ true))) c.self.view_is
-    (told_each _ _ _ _ c.between.result (λ found only all known name is. between_there files m t links c.args.wanted.now c.args.excluded.now name (only name is)) c.between.ensures.only c.between.ensures.all c.between.ensures.known)
+    (told_each _ _ _ _ c.between.result (λ found only all known name is. between_there files m t links Links c.args.wanted.now c.args.excluded.now name (only name is)) c.between.ensures.only c.between.ensures.all c.between.ensures.known)
 
 pub returns-clause-rooted : goal.returns-clause-rooted
 returns-clause-rooted g c = λ none.
@@ -39,4 +40,4 @@ returns-clause-rooted g c = λ none.
     let t = c.args.tenant.now in
     let links = c.self.inside.holdings.links in
     subst (λ (s : VaultState). IfOk c.between.result (λ known. IfSome known (λ found. (name : List ℕ) → Contains c.args.wanted.now name → contains_key (private_of s.tenants t).visible name ≡ true → contains same_name found name ≡ true))) c.self.view_is
-    (told_each _ _ _ _ c.between.result (λ found only all known name among there. all name (between_root files m t links c.args.wanted.now c.args.excluded.now name none among there)) c.between.ensures.only c.between.ensures.all c.between.ensures.known)
+    (told_each _ _ _ _ c.between.result (λ found only all known name among there. all name (between_root files m t links Links c.args.wanted.now c.args.excluded.now name none among there)) c.between.ensures.only c.between.ensures.all c.between.ensures.known)

@@ -1,6 +1,7 @@
-use Rattle.std.proofs.Common.{◌≡◌, ◌⊎◌, List, ℕ, [], Some, true, false, sym, ap, subst, ◌∙◌}
+use Rattle.std.proofs.Common.{◌≡◌, ◌⊎◌, Some, true, false, sym, ap, subst, ◌∙◌}
 use Rattle.std.specs.FinMap.{get}
 use Rattle.std.specs.Option.{option_map_or}
+use Rattle.number_links.specs.Facts.{nothing}
 use Rattle.object_table.specs.declared.word.Word.{Word}
 use Rattle.object_table.specs.Holders.{HoldingsState}
 use Rattle.object_table.specs.Ledgers.{ledger_at}
@@ -18,4 +19,4 @@ returns-clause-links c q to is =
     let rows = c.self.inside.table.entries in
     let words = ap (words_under rows) c.in-Some.ensures ∙ ledger_is rows c.self.inside.ledgers c.args.tenant.now ∙ ap (λ (s : HoldingsState). ledger_at s.ledgers c.args.tenant.now) c.self.view_is in
     let links = ap (λ (s : HoldingsState). s.links) c.self.view_is in
-    subst (λ (p : Words × NamedLinks). (get p.1 q ≡ Some to) ⊎ ((to ≡ []) × (option_map_or (λ (word : Word). leads_nowhere word.kind) (get (words_that is_visible p.0) q) false ≡ true))) (λ i. (words i, links i)) (c.keep_names.ensures.links q to is)
+    subst (λ (p : Words × NamedLinks). (get p.1 q ≡ Some to) ⊎ ((to ≡ nothing) × (option_map_or (λ (word : Word). leads_nowhere word.kind) (get (words_that is_visible p.0) q) false ≡ true))) (λ i. (words i, links i)) (c.keep_names.ensures.links q to is)

@@ -1,4 +1,4 @@
-use Rattle.std.proofs.Common.{◌≡◌, Some, ap, subst}
+use Rattle.std.proofs.Common.{subst}
 use Rattle.object_table.specs.Holders.{HoldingsState}
 use Rattle.object_table.specs.Links.{KnowsNoMore, named_links}
 use Rattle.object_table.proofs.holdings.Holdings.leave.Goals as goal

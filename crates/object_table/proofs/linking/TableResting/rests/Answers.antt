@@ -1,7 +1,7 @@
-use Rattle.std.proofs.Common.{◌≡◌, false, List, ℕ, Option, None, Some, sym, ap, ◌∙◌}
+use Rattle.std.proofs.Common.{false, List, ℕ, sym, ap, ◌∙◌}
 use Rattle.std.specs.Option.{option_map_or}
 use Rattle.object_table.specs.declared.row.Row.{Row}
-use Rattle.object_table.specs.Links.{leads_nowhere, numbered, rests_in}
+use Rattle.object_table.specs.Links.{leads_nowhere, numbered}
 use Rattle.object_table.proofs.LinkLemmas.{numbered_is, numbered_none}
 use Rattle.object_table.proofs.linking.TableResting.rests.Goals as goal
 

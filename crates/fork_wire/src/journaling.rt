@@ -1,6 +1,6 @@
 // Which frames a journal keeps.
 ghost use Rattle.std.specs.Prelude.{◌≡◌, IsTrue, false, true};
-ghost use Rattle.std.specs.Io.KnownBytes.{Appends};
+ghost use Rattle.std.specs.Io.KnownBytes.{Appends, Keeps};
 ghost use Rattle.fork_request.specs.Asked.{asked};
 ghost use Rattle.fork_wire.specs.Kept.{is_part_end as may_end, is_kept, kept_one, leaves as is_left, only_asks as is_asking};
 
@@ -50,6 +50,14 @@ fn ends_upload(payload: &[u8]) -> bool
     }
 }
 
+/// Whether the request may visit all objects of its tenant, or of the tenant that made an offer.
+pub(crate) fn visits_all(payload: &[u8]) -> bool {
+    match Request::read(payload) {
+        Request::Prune | Request::ForkOffer(_, _, _) => true,
+        _ => false,
+    }
+}
+
 // Whether the tenant's view is as it was before the request was answered this way.
 fn leaves(payload: &[u8], reply: &Reply) -> bool
     ensures { result ≡ is_left (asked payload.now) reply.now }
@@ -71,10 +79,11 @@ pub(crate) fn may_change(frame: &Frame, reply: &Reply) -> bool
     }
 }
 
-/// Keeps a frame that was answered this way, if it may have changed the host. Returns whether that
-/// succeeded.
-pub(crate) fn keep<J: Journal>(journal: &mut J, frame: &Frame, reply: &Reply) -> bool
+/// Keeps a frame that was answered this way, if it may have changed the host, and then syncs it. Returns
+/// whether that succeeded.
+pub(crate) fn keep_synced<J: Journal>(journal: &mut J, frame: &Frame, reply: &Reply) -> bool
     ensures kept { IsTrue result → Appends (J.kept journal.old) (J.kept journal.new) (kept_one frame.now reply.now) }
+    ensures synced { IsTrue result → Keeps (J.synced journal.old) (J.kept journal.old) → Keeps (J.synced journal.new) (J.kept journal.new) }
     ensures cause { result ≡ false → J.can_fail }
     ensures whole { IsTrue result → J.is_cut journal.new ≡ J.is_cut journal.old }
     ensures cut { result ≡ false → J.is_cut journal.new ≡ true }
@@ -83,6 +92,9 @@ pub(crate) fn keep<J: Journal>(journal: &mut J, frame: &Frame, reply: &Reply) ->
         return true;
     }
     let Ok(()) = journal.keep(frame) else {
+        return false;
+    };
+    let Ok(()) = journal.sync() else {
         return false;
     };
     true

@@ -1,0 +1,19 @@
+ghost use Rattle.std.specs.Prelude.{◌≡◌, IfSome};
+ghost use Rattle.fork_reach.specs.History.{time_in};
+
+use git_commit::Commit;
+use git_name::Kind;
+
+/// When a commit with these bytes was made: the committer's seconds since 1970 plus 1. It is 0 for any other kind, and
+/// `None` if it does not fit a word.
+pub fn time_of(kind: Kind, bytes: &[u8]) -> Option<u64>
+    ensures { IfSome result (λ time. time ≡ time_in kind bytes.now) }
+{
+    if !matches!(kind, Kind::Commit) {
+        return Some(0);
+    }
+    let Ok(commit) = Commit::read(bytes) else {
+        return Some(0);
+    };
+    commit.committer().seconds().checked_add(1)
+}

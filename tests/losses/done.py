@@ -1,0 +1,165 @@
+"""What was done in a recording, and when: the requests that a journal has, which of them were acknowledged, and which a saved
+state has."""
+from typing import NamedTuple
+
+from folders.killing import changes
+from lib.chained import LINE, bounds, pieces_in
+from lib.folder import requests_in
+from lib.frames import replies
+from losses.past import ROOT, Named, Synced, Told, Wrote
+from losses.recording import DROPS, PLACE
+
+
+class Done(NamedTuple):
+    """Turns that were done together, and the event from which on a journal, or a state, may have them."""
+
+    turns: list
+    at: int
+
+
+class Moments:
+    """For each file and folder that is named so now: what it is."""
+
+    def __init__(self, past):
+        self.names = {folder: dict(names) for folder, names in past.first_names.items()}
+
+    def change(self, event):
+        for folder, name, inode in event.entries:
+            inner = self.names.setdefault(folder, {})
+            inner.pop(name, None)
+            if inode is not None:
+                inner[name] = inode
+
+    def at(self, *path):
+        inode = ROOT
+        for name in (PLACE, *path):
+            inode = self.names.get(inode, {}).get(name)
+        return inode
+
+
+class Journal:
+    """A journal that was begun: what it has when it gets its name, and what is added to it later."""
+
+    def __init__(self, name, data):
+        self.name, self.first, self.data, self.ends = name[:64].decode(), len(data), bytearray(data), []
+
+    def add(self, at, event):
+        self.data += event.data
+        self.ends.append((len(self.data), at))
+
+    def done(self):
+        """The requests that were added, each with the event that ended it."""
+        written = bytes(self.data[LINE:])
+        pieces, end = pieces_in(self.name, written)
+        if end == "altered":
+            raise ValueError("a journal that was written is altered")
+        ends, at = bounds(log_of(written, pieces)), 0
+        places = []
+        for piece, end in zip(pieces, ends[1:]):
+            at += len(piece)
+            places.append((at, LINE + end))
+        stream, length = b"".join(pieces), 0
+        for request in requests_in(stream):
+            length += len(request)
+            written_by = next(end for at, end in places if at >= length)
+            if written_by > self.first:
+                yield request, next(at for end, at in self.ends if end >= written_by)
+
+
+def log_of(written, pieces):
+    """The whole pieces of a log."""
+    return written[: sum(len(piece) + 68 for piece in pieces)]
+
+
+def turn_of(request):
+    head, _, payload = request.partition(b"\n")
+    return head.split(b" ")[0], payload
+
+
+def journals_of(past):
+    """The journals that got their names, in order, each with what was added."""
+    moments, written, named = Moments(past), {}, {}
+    for at, event in enumerate(past.events):
+        if isinstance(event, Named):
+            moments.change(event)
+            for folder, name, inode in event.entries:
+                if folder == moments.at(b"journal") and name.endswith(b".2") and inode is not None:
+                    named[inode] = Journal(name, written.get(inode, b""))
+        elif isinstance(event, Wrote) and event.file in named:
+            named[event.file].add(at, event)
+        elif isinstance(event, Wrote):
+            written[event.file] = written.get(event.file, b"") + event.data
+    return list(named.values())
+
+
+def done_in(recording):
+    """All that was done, in order. An end in order saves a state last, and with it all uploads go."""
+    found = [Done([turn_of(request)], at) for journal in journals_of(recording.past) for request, at in journal.done()]
+    savings = savings_of(recording.past)
+    for leg in recording.legs:
+        if leg.is_ended:
+            found.append(Done(DROPS, max(begun for begun, _ in savings if leg.begin <= begun < leg.end) - 1))
+    return sorted(found, key=lambda one: one.at)
+
+
+def savings_of(past):
+    """The events by which a state was saved, with its journal."""
+    moments, found, renamed = Moments(past), [], {}
+    for at, event in enumerate(past.events):
+        if isinstance(event, Named):
+            moments.change(event)
+            for folder, name, inode in event.entries:
+                if inode is None and renamed.get(folder, (0, None))[1] == name:
+                    # A journal of a state that never came is removed by the next start.
+                    renamed.pop(folder)
+                if inode is not None and folder == moments.at() and name == b"state":
+                    renamed[folder] = at, name
+                if inode is not None and folder == moments.at(b"journal") and name.endswith(b".2"):
+                    renamed[folder] = at, name
+        elif isinstance(event, Synced) and event.inode in renamed:
+            begun, _ = renamed.pop(event.inode)
+            if event.inode == moments.at() or not is_state_to_come(past, moments, at):
+                found.append((begun, at))
+    return found
+
+
+def is_state_to_come(past, moments, at):
+    """Whether after a journal got its name a state does, before anything is done."""
+    for event in past.events[at:]:
+        if isinstance(event, Told):
+            return False
+        if isinstance(event, Named):
+            for folder, name, inode in event.entries:
+                if folder == moments.at() and name in (b"state", b"part"):
+                    return True
+                if folder == moments.at(b"journal"):
+                    return False
+    return False
+
+
+def answered(recording, leg):
+    """The turns of a process that were answered and changed something, each with the event by which its reply was out."""
+    streams, counts = {}, {}
+    for at in range(leg.begin, leg.end):
+        event = recording.past.events[at]
+        if isinstance(event, Told):
+            streams[event.connection] = streams.get(event.connection, b"") + event.data
+            answers, streams[event.connection] = replies(streams[event.connection])
+            for reply in answers:
+                number = counts.get(event.connection, 0)
+                counts[event.connection] = number + 1
+                turn = leg.asked[event.connection][number]
+                if changes(turn[1], reply):
+                    yield turn, at
+
+
+def acknowledged(recording, done):
+    """For each of what was done, the event by which its reply was out, or None."""
+    found, left = [None] * len(done), list(enumerate(done))
+    for leg in recording.legs:
+        for turn, at in answered(recording, leg):
+            place = next((number for number, one in left if one.turns == [turn] and leg.begin <= one.at < at), None)
+            if place is not None:
+                found[place] = at
+                left = [(number, one) for number, one in left if number != place]
+    return found

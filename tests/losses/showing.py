@@ -1,0 +1,50 @@
+"""Some lives at once, and what is found in all of them."""
+import os
+import tempfile
+from concurrent.futures import ProcessPoolExecutor
+from itertools import repeat
+
+from lib.program import Program
+from losses.lives import Found, Life, Way
+from losses.syncing import KINDS
+
+LIVES, FOLDERS = 20, 40
+# A folder in memory, where a sync costs nothing, is used if there is so much space.
+MEMORY, SPACE = "/dev/shm", 1 << 30
+LONGEST = 300
+
+
+def place():
+    """Where folders are made; None is the usual place."""
+    if not os.path.isdir(MEMORY):
+        return None
+    there = os.statvfs(MEMORY)
+    return MEMORY if there.f_bavail * there.f_frsize >= SPACE else None
+
+
+def found_of(path, seed, way):
+    """What is found in one life."""
+    program = Program(path)
+    with tempfile.TemporaryDirectory(dir=place()) as work:
+        life = Life(program, work, seed, way)
+        try:
+            life.live()
+        except (OSError, ValueError, LookupError) as error:
+            life.found.note(seed, f"a life breaks off: {error!r}"[:LONGEST])
+        program.stop()
+        return life.found
+
+
+def show(checks, path, label, seed, sync, kept):
+    """All lives of hosts that serve in one way."""
+    found, way = Found(), Way(sync, FOLDERS, kept)
+    with ProcessPoolExecutor(os.cpu_count()) as pool:
+        for one in pool.map(found_of, repeat(path), (f"{label}, {seed}.{number}" for number in range(LIVES)), repeat(way)):
+            found.add(one)
+    checks.add(found.right, 0)
+    for why, count in found.wrong.most_common():
+        checks.holds(f"{label}: {why}", f"{count} times, as in {found.first[why]}")
+    checks.same(f"{label}: each kind of sync is made", [], [kind for kind in KINDS if kind not in found.made])
+    for kind in sorted(found.made):
+        checks.same(f"{label}: a start is wrong without the syncs of {kind}", True, kind in found.missed)
+    print(f"{label}: {found.right + found.wrong.total()} folders; {found.reported} had a few zero bytes that were reported", flush=True)

@@ -1,7 +1,8 @@
 -- What a turn does, from what its parts did.
-use Rattle.std.proofs.Common.{Bool, true, false, ◌≡◌, ℕ, ◌+◌, ◌<◌, List, [], ◌∷◌, ◌++◌, length, Option, Result, Ok, Err, refl, sym, ap, ◌∙◌, subst, arith}
+use Rattle.std.proofs.Common.{Bool, true, false, ◌≡◌, ℕ, ◌+◌, ◌<◌, ◌≤◌, List, [], ◌∷◌, ◌++◌, length, Option, Result, Ok, Err, refl, sym, ap, ◌∙◌, subst, arith}
 use Rattle.std.specs.Prelude.{OnOk}
-use Rattle.std.specs.Io.KnownBytes.{Consumes}
+use Rattle.std.specs.Io.KnownBytes.{Appends, Consumes}
+use Rattle.std.proofs.KnownBytes.{Appends-nil, Appends-trans}
 use Rattle.std.proofs.lemmas.List.{append-nil, length-append}
 use Rattle.fork_request.specs.Told.{bytes_of}
 use Rattle.fork_frame.specs.declared.ended.Ended.TheVariants.{BadFrame}
@@ -25,8 +26,8 @@ part_has_room pending (OfPayload line text payload right short parts) =
     let whole : length pending ≡ length text + length (10 ∷ payload) = ap (λ (l : List ℕ). length l) parts ∙ length-append text (10 ∷ payload) in
     omega arith
 
-pub breaks : (old new : Peer) → IsExchange old new (Err Broken)
-breaks old new = record { acts = []; left = old; does = refl; none = refl; unsent = refl; found = refl; stays = tt }
+pub breaks : (old new : Peer) → new.out ≡ old.out → IsExchange old new (Err Broken)
+breaks old new still = record { acts = []; left = old; does = refl; none = refl; unsent = refl; still = still; found = refl; stays = tt }
 
 -- bytes are read
 pub reads : (left now out : Option (List ℕ)) (old new : Talk) (turn : Turn) (more : List ℕ) → Consumes left now more → new.pending ≡ old.pending ++ more → new.waiting ≡ old.waiting
@@ -37,6 +38,7 @@ reads left now out old new turn more taken pending waiting = record {
   does = (peer_of now out new, (taken, pending, waiting, refl), refl);
   none = refl;
   unsent = refl;
+  still = refl;
   found = refl;
   stays = refl;
 }
@@ -50,10 +52,11 @@ refuses left out old new (Ok turn) none nothing same found told = record {
   does = (peer_of left out new, (none, nothing, told, same, refl, refl), refl);
   none = refl;
   unsent = refl;
+  still = refl;
   found = refl;
   stays = refl;
 }
-refuses left out old new (Err fault) none nothing same found told = record { acts = []; left = peer_of left out old; does = refl; none = refl; unsent = refl; found = found; stays = tt }
+refuses left out old new (Err fault) none nothing same found told = record { acts = []; left = peer_of left out old; does = refl; none = refl; unsent = refl; still = refl; found = found; stays = tt }
 
 -- one exchange after another
 acts_append : (old mid new : Peer) (acts more : List Act) → Acts old acts mid → Acts mid more new → Acts old (acts ++ more) new
@@ -64,35 +67,40 @@ nil_front : (xs ys : List ℕ) → xs ++ ys ≡ [] → xs ≡ []
 nil_front [] ys is = refl
 nil_front (x ∷ xs) ys is = (let none : length (x ∷ (xs ++ ys)) ≡ 0 = ap (λ (l : List ℕ). length l) is in absurd (omega arith))
 
-asked_append : (acts more : List Act) → asked acts ≡ [] → asked more ≡ [] → asked (acts ++ more) ≡ []
-asked_append [] more none other = other
-asked_append (Reads bytes ∷ acts) more none other = asked_append acts more none other
-asked_append (Writes bytes ∷ acts) more none other = asked_append acts more none other
-asked_append (Answers frame reply ∷ acts) more none other = absurd (some frame (asked acts) none)
+-- where the first acts asked or sent nothing
+asked_behind : (acts more : List Act) → asked acts ≡ [] → asked (acts ++ more) ≡ asked more
+asked_behind [] more none = refl
+asked_behind (Reads bytes ∷ acts) more none = asked_behind acts more none
+asked_behind (Writes bytes ∷ acts) more none = asked_behind acts more none
+asked_behind (Answers frame reply ∷ acts) more none = absurd (some frame (asked acts) none)
   where
     some : (f : Frame) (fs : List Frame) → f ∷ fs ≡ [] → ⊥
     some f fs is = let none : length (f ∷ fs) ≡ 0 = ap (λ (l : List Frame). length l) is in absurd (omega arith)
-asked_append (Refuses ∷ acts) more none other = asked_append acts more none other
+asked_behind (Refuses ∷ acts) more none = asked_behind acts more none
 
-sent_append : (acts more : List Act) → sent acts ≡ [] → sent more ≡ [] → sent (acts ++ more) ≡ []
-sent_append [] more none other = other
-sent_append (Reads bytes ∷ acts) more none other = sent_append acts more none other
-sent_append (Writes bytes ∷ acts) more none other =
+sent_behind : (acts more : List Act) → sent acts ≡ [] → sent (acts ++ more) ≡ sent more
+sent_behind [] more none = refl
+sent_behind (Reads bytes ∷ acts) more none = sent_behind acts more none
+sent_behind (Writes bytes ∷ acts) more none =
     let front : bytes ≡ [] = nil_front bytes (sent acts) none in
-    ap (λ b. b ++ sent (acts ++ more)) front ∙ sent_append acts more (sym (ap (λ b. b ++ sent acts) front) ∙ none) other
-sent_append (Answers frame reply ∷ acts) more none other = sent_append acts more none other
-sent_append (Refuses ∷ acts) more none other = sent_append acts more none other
+    ap (λ b. b ++ sent (acts ++ more)) front ∙ sent_behind acts more (sym (ap (λ b. b ++ sent acts) front) ∙ none)
+sent_behind (Answers frame reply ∷ acts) more none = sent_behind acts more none
+sent_behind (Refuses ∷ acts) more none = sent_behind acts more none
 
 pub then : (old mid new : Peer) (turn : Turn) (result : Result Turn TurnFault) → IsExchange old mid (Ok turn) → IsExchange mid new result → IsExchange old new result
 then old mid new turn result one two = record {
   acts = one.acts ++ two.acts;
   left = two.left;
   does = acts_append old mid two.left one.acts two.acts (subst (λ (p : Peer). Acts old one.acts p) one.stays one.does) two.does;
-  none = asked_append one.acts two.acts one.none two.none;
-  unsent = sent_append one.acts two.acts one.unsent two.unsent;
+  none = asked_behind one.acts two.acts one.none ∙ two.none;
+  unsent = sent_behind one.acts two.acts one.unsent ∙ two.unsent;
+  still = two.still ∙ one.still;
   found = two.found;
   stays = two.stays;
 }
+
+nothing_gone : (old new : Option (List ℕ)) (bytes : List ℕ) → new ≡ old → bytes ≡ [] → Appends old new bytes
+nothing_gone old new bytes same none = subst (λ (b : List ℕ). Appends old new b) (sym none) (subst (λ (n : Option (List ℕ)). Appends old n []) (sym same) (Appends-nil old))
 
 module _ {H : Type 0} where
   quiet : (answered : Answered H) (before after : H) (acts : List Act) → asked acts ≡ [] → before ≡ after → Chain answered before acts after
@@ -109,6 +117,20 @@ module _ {H : Type 0} where
   led answered lost before after acts false found chain = chain
   led answered lost before after acts true found chain = let bad : true ≡ false = found in absurd (cc bad)
 
+  chain_after : (answered : Answered H) (before after : H) (acts more : List Act) → asked acts ≡ [] → Chain answered before more after → Chain answered before (acts ++ more) after
+  chain_after answered before after [] more none chain = chain
+  chain_after answered before after (Reads bytes ∷ acts) more none chain = chain_after answered before after acts more none chain
+  chain_after answered before after (Writes bytes ∷ acts) more none chain = chain_after answered before after acts more none chain
+  chain_after answered before after (Answers frame reply ∷ acts) more none chain = absurd (some frame (asked acts) none)
+    where
+      some : (f : Frame) (fs : List Frame) → f ∷ fs ≡ [] → ⊥
+      some f fs is = let none : length (f ∷ fs) ≡ 0 = ap (λ (l : List Frame). length l) is in absurd (omega arith)
+  chain_after answered before after (Refuses ∷ acts) more none chain = chain_after answered before after acts more none chain
+
+  leads_after : (answered : Answered H) (lost : Loses H) (before after : H) (acts more : List Act) (loses : Bool) → asked acts ≡ [] → LeadsTo answered lost before after more loses → LeadsTo answered lost before after (acts ++ more) loses
+  leads_after answered lost before after acts more false none leads = chain_after answered before after acts more none leads
+  leads_after answered lost before after acts more true none leads = record { mid = leads.mid; chain = chain_after answered before leads.mid acts more none leads.chain; frame = leads.frame; right = leads.right; is = leads.is }
+
   -- a turn without a frame
   pub is_quiet : (answered : Answered H) (lost : Loses H) (before after : H) (old new : Peer) (result : Result Turn TurnFault) → IsExchange old new result → before ≡ after → IsTurn answered lost before after old new result
   is_quiet answered lost before after old new result exchange same = record {
@@ -118,7 +140,22 @@ module _ {H : Type 0} where
     leads = led answered lost before after exchange.acts (is_loss result) exchange.found (quiet answered before after exchange.acts exchange.none same);
     few = (let size : length (asked exchange.acts) ≡ 0 = ap (λ (l : List Frame). length l) exchange.none in omega arith);
     late = (old.waiting, ap (λ b. b ++ old.waiting) (sym exchange.unsent));
+    gone = nothing_gone old.out new.out (sent exchange.acts) exchange.still exchange.unsent;
     stays = exchange.stays;
+  }
+
+  -- bytes came, and then a turn was taken
+  pub came_then : (answered : Answered H) (lost : Loses H) (before still after : H) (old mid new : Peer) (turn : Turn) (result : Result Turn TurnFault) → IsExchange old mid (Ok turn) → still ≡ before → mid.waiting ≡ old.waiting
+      → IsTurn answered lost still after mid new result → IsTurn answered lost before after old new result
+  came_then answered lost before still after old mid new turn result one same waiting two = record {
+    acts = one.acts ++ two.acts;
+    left = two.left;
+    does = acts_append old mid two.left one.acts two.acts (subst (λ (p : Peer). Acts old one.acts p) one.stays one.does) two.does;
+    leads = leads_after answered lost before after one.acts two.acts (is_loss result) one.none (subst (λ (h : H). LeadsTo answered lost h after two.acts (is_loss result)) same two.leads);
+    few = subst (λ (l : List Frame). length l ≤ 1) (sym (asked_behind one.acts two.acts one.none)) two.few;
+    late = (two.late.0, sym waiting ∙ (two.late.1 ∙ ap (λ b. b ++ two.late.0) (sym (sent_behind one.acts two.acts one.unsent))));
+    gone = subst (Appends old.out new.out) (sym (sent_behind one.acts two.acts one.unsent)) (subst (λ (o : Option (List ℕ)). Appends o new.out (sent two.acts)) one.still two.gone);
+    stays = two.stays;
   }
 
   -- a turn with one
@@ -132,6 +169,7 @@ module _ {H : Type 0} where
     leads = (next, replied.is, refl);
     few = omega arith;
     late = (old.waiting, refl);
+    gone = Appends-nil out;
     stays = refl;
   }
   answers answered lost host next frame left out old new (Err Broken) nothing right parts replied = record {
@@ -141,6 +179,7 @@ module _ {H : Type 0} where
     leads = (next, replied.is, refl);
     few = omega arith;
     late = (old.waiting, refl);
+    gone = Appends-nil out;
     stays = tt;
   }
   answers answered lost host next frame left out old new (Err Lost) nothing right parts replied = record {
@@ -150,6 +189,7 @@ module _ {H : Type 0} where
     leads = record { mid = host; chain = refl; frame = frame; right = right; is = replied };
     few = omega arith;
     late = (old.waiting, refl);
+    gone = Appends-nil out;
     stays = tt;
   }
 
@@ -163,9 +203,19 @@ module _ {H : Type 0} where
     leads = refl;
     few = omega arith;
     late = (new.waiting, went.parts ∙ ap (λ b. b ++ new.waiting) (sym (append-nil went.gone)));
+    gone = subst (Appends before after) (sym (append-nil went.gone)) went.written;
     stays = refl;
   }
-  sends answered lost host left before after old new (Err Broken) same found went = record { acts = []; left = peer_of left before old; does = refl; leads = refl; few = omega arith; late = (old.waiting, refl); stays = tt }
+  sends answered lost host left before after old new (Err Broken) same found went = record {
+    acts = Writes went.gone ∷ [];
+    left = peer_of left after new;
+    does = (peer_of left after new, (went.written, went.parts, same, refl), refl);
+    leads = refl;
+    few = omega arith;
+    late = (new.waiting, went.parts ∙ ap (λ b. b ++ new.waiting) (sym (append-nil went.gone)));
+    gone = subst (Appends before after) (sym (append-nil went.gone)) went.written;
+    stays = tt;
+  }
   sends answered lost host left before after old new (Err Lost) same found went = (let bad : true ≡ false = found in absurd (cc bad))
 
   leads_behind : (answered : Answered H) (lost : Loses H) (before after : H) (bytes : List ℕ) (acts : List Act) (loses : Bool) → LeadsTo answered lost before after acts loses → LeadsTo answered lost before after (Writes bytes ∷ acts) loses
@@ -184,5 +234,6 @@ module _ {H : Type 0} where
         leads = leads_behind answered lost host next went.gone more.acts (is_loss result) more.leads;
         few = more.few;
         late = (mid.waiting, went.parts ∙ ap (λ b. b ++ mid.waiting) (sym (append-nil went.gone) ∙ ap (λ b. went.gone ++ b) (sym nothing)));
+        gone = Appends-trans before after after went.gone (sent more.acts) went.written more.gone;
         stays = more.stays;
       }

@@ -1,11 +1,19 @@
 -- Turns of many connections are acts at their peers.
-use Rattle.std.proofs.Common.{Result, Ok, Err, ◌≡◌, ◌≢◌, ℕ, ◌+◌, ◌<◌, ◌≤◌, ◌==◌, Bool, true, false, cond, List, [], ◌∷◌, ◌++◌, length, get_or, set, refl, sym, ap, ◌∙◌, subst, arith}
+use Rattle.std.proofs.Common.{Result, Ok, Err, ◌≡◌, ◌≢◌, ℕ, zero, suc, ◌+◌, ◌<◌, ◌≤◌, ◌==◌, Bool, true, false, cond, List, [], ◌∷◌, ◌++◌, length, get_or, set, refl, sym, ap, ◌∙◌, subst, arith}
 use Rattle.std.specs.Prelude.{OnOk, is_err}
-use Rattle.std.proofs.lemmas.List.{append-nil, get_or-set_other, get_or-set_same, length-set}
+use Rattle.std.specs.Io.KnownBytes.{Appends}
+use Rattle.std.proofs.KnownBytes.{Appends-nil, Appends-trans}
+use Rattle.std.proofs.lemmas.List.{append-nil, append_assoc, get_or-set_other, get_or-set_same, length-set}
 use Rattle.fork_connection.specs.declared.answering.Lost.{Lost}
-use Rattle.fork_connection.specs.Turns.{Act, Acts, Answered, Answers, Chain, Does, LeadsTo, Loses, Peer, Reads, Refuses, Runs, SendsWhatWaited, Step, Writes, acts_at, acts_of}
+use Rattle.fork_connection.specs.Turns.{Act, Acts, Answered, Answers, Chain, Does, LeadsTo, Loses, Peer, Reads, Refuses, Runs, SendsWhatWaited, Step, Writes, acts_at, acts_of, sent}
 use Rattle.fork_connection.specs.Rounds.{AreTurns, IsServed, Reaches, Stands}
 use Rattle.fork_connection.proofs.TurnLemmas.{acts_alone}
+
+-- a place within a list has what it has, whatever else would be told
+pub get_any : {X : Type 0} (xs : List X) (at : ℕ) (a b : X) → at < length xs → get_or xs at a ≡ get_or xs at b
+get_any [] at a b within = absurd (omega (arith, within))
+get_any (x ∷ xs) zero a b within = refl
+get_any (x ∷ xs) (suc at) a b within = (let less : at < length xs = omega (arith, within) in get_any xs at a b less)
 
 -- the table with this peer at this place
 abbrev put : (ℕ → Peer) → ℕ → Peer → ℕ → Peer
@@ -47,6 +55,16 @@ acts_at-append place [] more = refl
 acts_at-append place (step ∷ steps) more =
     ap (λ (l : List Act). cond (step.at == place) (step.act ∷ l) l) (acts_at-append place steps more)
     ∙ acts_at_append (step.at == place) step.act (acts_at place steps) (acts_at place more)
+
+sent-append : (acts more : List Act) → sent (acts ++ more) ≡ sent acts ++ sent more
+sent-append [] more = refl
+sent-append (Writes bytes ∷ acts) more = ap (λ (l : List ℕ). bytes ++ l) (sent-append acts more) ∙ sym (append_assoc bytes (sent acts) (sent more))
+sent-append (Reads bytes ∷ acts) more = sent-append acts more
+sent-append (Answers frame reply ∷ acts) more = sent-append acts more
+sent-append (Refuses ∷ acts) more = sent-append acts more
+
+sent_at-append : (place : ℕ) (steps more : List Step) → sent (acts_at place (steps ++ more)) ≡ sent (acts_at place steps) ++ sent (acts_at place more)
+sent_at-append place steps more = ap sent (acts_at-append place steps more) ∙ sent-append (acts_at place steps) (acts_at place more)
 
 acts_of-steps_at : (at : ℕ) (acts : List Act) → acts_of (steps_at at acts) ≡ acts
 acts_of-steps_at at [] = refl
@@ -112,12 +130,13 @@ module _ {H : Type 0} where
     leads = refl;
     few = omega arith;
     late = (peer.waiting, refl);
+    gone = Appends-nil peer.out;
     stays = λ on. (on, refl);
   }
 
 module _ {H P : Type 0} where
-  no_turn : (answered : Answered H) (lost : Loses H) (peer : P → Peer) (is_over : P → Bool) (host : H) (parties : List P) (table : ℕ → Peer) → Stands peer is_over table parties → Reaches answered lost peer is_over host host table parties (Ok tt)
-  no_turn answered lost peer is_over host parties table stands = record { steps = []; next = table; runs = λ place. refl; leads = refl; late = λ place. ((table place).waiting, refl); stands = stands }
+  no_turn : (answered : Answered H) (lost : Loses H) (peer : P → Peer) (is_over : P → Bool) (host : H) (parties : List P) (table : ℕ → Peer) → Stands peer is_over table parties → Reaches answered lost peer is_over host host table parties parties (Ok tt)
+  no_turn answered lost peer is_over host parties table stands = record { steps = []; next = table; runs = λ place. refl; leads = refl; late = λ place. ((table place).waiting, refl); gone = λ place other. Appends-nil (peer (get_or parties place other)).out; stands = stands }
 
   pub no_turns : (answered : Answered H) (lost : Loses H) (peer : P → Peer) (is_over : P → Bool) (host : H) (parties : List P) → AreTurns answered lost peer is_over host host parties parties (Ok tt)
   no_turns answered lost peer is_over host parties table stands = no_turn answered lost peer is_over host parties table stands
@@ -125,7 +144,7 @@ module _ {H P : Type 0} where
   -- the turns of those before this place
   abbrev pub AreTurnsBefore : Answered H → Loses H → (P → Peer) → (P → Bool) → H → H → List P → List P → Result (Unit {0}) Lost → ℕ → Type 0
   AreTurnsBefore answered lost peer is_over before after old new result at = (table : ℕ → Peer) → Stands peer is_over table old
-      → (reached : Reaches answered lost peer is_over before after table new result) × ((place : ℕ) → at ≤ place → acts_at place reached.steps ≡ [])
+      → (reached : Reaches answered lost peer is_over before after table old new result) × ((place : ℕ) → at ≤ place → acts_at place reached.steps ≡ [])
 
   pub none_before : (answered : Answered H) (lost : Loses H) (peer : P → Peer) (is_over : P → Bool) (host : H) (parties : List P) (at : ℕ) → AreTurnsBefore answered lost peer is_over host host parties parties (Ok tt) at
   unfolding no_turn
@@ -138,7 +157,7 @@ module _ {H P : Type 0} where
   -- one more turn
   one_turn : (answered : Answered H) (lost : Loses H) (peer : P → Peer) (is_over : P → Bool) (before after : H) (parties : List P) (at : ℕ) (new other : P) (result : Result (Unit {0}) Lost) → at < length parties
       → IsServed answered lost before after (peer (get_or parties at other)) (peer new) (is_over (get_or parties at other)) (is_over new) result → (table : ℕ → Peer) → Stands peer is_over table parties
-      → (reached : Reaches answered lost peer is_over before after table (set parties at new) result) × ((place : ℕ) → place ≢ at → acts_at place reached.steps ≡ [])
+      → (reached : Reaches answered lost peer is_over before after table parties (set parties at new) result) × ((place : ℕ) → place ≢ at → acts_at place reached.steps ≡ [])
   one_turn answered lost peer is_over before after parties at new other result within served table stands = turn (is_over (get_or parties at other)) refl
     where
       still : length (set parties at new) ≡ length parties
@@ -183,8 +202,37 @@ module _ {H P : Type 0} where
           let apart : place ≢ at = grind (arith, miss) in
           subst (λ (l : List Act). SendsWhatWaited (table place) l) (sym (acts_at-elsewhere at place served.acts apart)) ((table place).waiting, refl)
 
+      -- what this one holds that went out, and any other one
+      gone : (place : ℕ) (some : P) (b : Bool) → (place == at) ≡ b → Appends (peer (get_or parties place some)).out (peer (get_or (set parties at new) place some)).out (sent (acts_at place (steps_at at served.acts)))
+      gone place some true hit =
+          let e : at ≡ place = grind (arith, hit) in
+          let now : get_or (set parties at new) at some ≡ new = get_or-set_same parties at new some within in
+          let was : get_or parties at other ≡ get_or parties at some = get_any parties at other some within in
+          subst (λ (p : ℕ). Appends (peer (get_or parties p some)).out (peer (get_or (set parties at new) p some)).out (sent (acts_at p (steps_at at served.acts)))) e
+          (subst (λ (l : List Act). Appends (peer (get_or parties at some)).out (peer (get_or (set parties at new) at some)).out (sent l)) (sym (acts_at-steps_at at served.acts))
+          (subst (λ (p : P). Appends (peer (get_or parties at some)).out (peer p).out (sent served.acts)) (sym now)
+          (subst (λ (p : P). Appends (peer p).out (peer new).out (sent served.acts)) was served.gone)))
+      gone place some false miss =
+          let apart : place ≢ at = grind (arith, miss) in
+          let now : get_or (set parties at new) place some ≡ get_or parties place some = get_or-set_other parties at place new some apart in
+          subst (λ (l : List Act). Appends (peer (get_or parties place some)).out (peer (get_or (set parties at new) place some)).out (sent l)) (sym (acts_at-elsewhere at place served.acts apart))
+          (subst (λ (p : P). Appends (peer (get_or parties place some)).out (peer p).out []) (sym now) (Appends-nil (peer (get_or parties place some)).out))
+
+      -- where it was over nothing went out
+      gone_none : is_over (get_or parties at other) ≡ true → (place : ℕ) (some : P) → Appends (peer (get_or parties place some)).out (peer (get_or (set parties at new) place some)).out []
+      gone_none over place some = by_place (place == at) refl
+        where
+          by_place : (b : Bool) → (place == at) ≡ b → Appends (peer (get_or parties place some)).out (peer (get_or (set parties at new) place some)).out []
+          by_place true hit =
+              let e : at ≡ place = grind (arith, hit) in
+              subst (λ (l : List Act). Appends (peer (get_or parties place some)).out (peer (get_or (set parties at new) place some)).out (sent l))
+              (ap (λ (p : ℕ). acts_at p (steps_at at served.acts)) (sym e) ∙ (acts_at-steps_at at served.acts ∙ served.idle over)) (gone place some true hit)
+          by_place false miss =
+              let apart : place ≢ at = grind (arith, miss) in
+              subst (λ (l : List Act). Appends (peer (get_or parties place some)).out (peer (get_or (set parties at new) place some)).out (sent l)) (acts_at-elsewhere at place served.acts apart) (gone place some false miss)
+
       turn : (was : Bool) → is_over (get_or parties at other) ≡ was
-          → (reached : Reaches answered lost peer is_over before after table (set parties at new) result) × ((place : ℕ) → place ≢ at → acts_at place reached.steps ≡ [])
+          → (reached : Reaches answered lost peer is_over before after table parties (set parties at new) result) × ((place : ℕ) → place ≢ at → acts_at place reached.steps ≡ [])
       turn false goes =
           let was = stands at other within goes in (
             record {
@@ -193,6 +241,7 @@ module _ {H P : Type 0} where
               runs = runs_at table at served.acts (peer (get_or parties at other)) served.left was (served.does goes);
               leads = subst (λ (l : List Act). LeadsTo answered lost before after l (is_err result)) (sym (acts_of-steps_at at served.acts)) served.leads;
               late = λ place. late (sym was) place (place == at) refl;
+              gone = λ place some. gone place some (place == at) refl;
               stands = stood (put table at served.left) served.left result (there table at served.left) (λ place apart. elsewhere table at served.left place apart) (same_left result served.stays);
             },
             λ place apart. acts_at-elsewhere at place served.acts apart,
@@ -204,6 +253,7 @@ module _ {H P : Type 0} where
           runs = λ place. refl;
           leads = subst (λ (l : List Act). LeadsTo answered lost before after l (is_err result)) (served.idle over) served.leads;
           late = λ place. ((table place).waiting, refl);
+          gone = gone_none over;
           stands = stood table (table at) result refl (λ place apart. refl) (over_left result over served.stays);
         },
         λ place apart. refl,
@@ -223,6 +273,8 @@ module _ {H P : Type 0} where
           runs = runs_append table one.next two.next one.steps two.steps one.runs two.runs;
           leads = subst (λ (l : List Act). LeadsTo answered lost first after l (is_err result)) (sym (acts_of-append one.steps two.steps)) (leads_append answered lost first before after (acts_of one.steps) (acts_of two.steps) (is_err result) one.leads two.leads);
           late = λ place. both table one.next one.steps two.steps place at one.runs quiet turn.1 one.late two.late (place == at) refl;
+          gone = λ place some. subst (λ (b : List ℕ). Appends (peer (get_or old place some)).out (peer (get_or (set parties at new) place some)).out b) (sym (sent_at-append place one.steps two.steps))
+              (Appends-trans _ (peer (get_or parties place some)).out _ (sent (acts_at place one.steps)) (sent (acts_at place two.steps)) (one.gone place some) (two.gone place some));
           stands = two.stands;
         },
         λ place less. (let before : at ≤ place = omega (arith, less) in

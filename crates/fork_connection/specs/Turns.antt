@@ -171,6 +171,7 @@ pub record IsExchange (old new : Peer) (result : Result Turn TurnFault) : Type 0
   pub does : Acts old acts left
   pub none : asked acts ≡ []
   pub unsent : sent acts ≡ []
+  pub still : new.out ≡ old.out
   pub found : is_loss result ≡ false
   pub stays : OnOk result (left ≡ new)
 
@@ -193,7 +194,8 @@ module _ {H : Type 0} where
   Replies answered lost old new frame waiting (Err Broken) = IsReplied answered old new frame waiting (Err Broken)
   Replies answered lost old new frame waiting (Err Lost) = lost old frame new
 
-  -- one turn: at most one frame was answered, and only what waited before went out; if the connection broke, it did after these acts
+  -- one turn: at most one frame was answered, and only what waited before went out, whether or not the connection broke; if it did,
+  -- it did after these acts
   pub record IsTurn (answered : Answered H) (lost : Loses H) (before after : H) (old new : Peer) (result : Result Turn TurnFault) : Type 0 where
     pub acts : List Act
     pub left : Peer
@@ -201,4 +203,5 @@ module _ {H : Type 0} where
     pub leads : LeadsTo answered lost before after acts (is_loss result)
     pub few : length (asked acts) ≤ 1
     pub late : SendsWhatWaited old acts
+    pub gone : Appends old.out new.out (sent acts)
     pub stays : OnOk result (left ≡ new)

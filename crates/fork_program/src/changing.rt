@@ -7,7 +7,7 @@ ghost use Rattle.fork_program.specs.Changing.{IsLimitSet, IsLimitUnset, IsNotAdd
 ghost use Rattle.fork_program.specs.Keeping.{IsUnkept};
 
 use crate::fault::Fault;
-use crate::keep::{save, save_as};
+use crate::saving::{save, save_as};
 use crate::keeping::standing_host;
 use crate::tenants::add;
 use fork_command::Grant;

@@ -11,7 +11,7 @@ use Rattle.fork_frame.specs.declared.frame.Frame.{Frame}
 use Rattle.fork_connection.specs.declared.answering.Lost.{Lost}
 use Rattle.fork_connection.specs.Rounds.{AreTurns, Stands}
 use Rattle.fork_connection.specs.Turns.{Act, Answered, Answers, Chain, Loses, Peer, Reads, Refuses, Runs, Step, Writes, acts_of, asked}
-use Rattle.fork_connection.proofs.RoundLemmas.{acts_of-append, runs_append}
+use Rattle.fork_connection.proofs.RoundLemmas.{acts_of-append, get_any, runs_append}
 use Rattle.fork_connection.proofs.TurnLemmas as turn
 use Rattle.fork_wire.specs.AtOnce.{EachIsHeardAtOnce, EndsRound, IsCutOff, IsRound, IsServedAtOnce, IsUnsynced, RoundsAreOne, frames_in, replied, replies_in}
 use Rattle.fork_wire.specs.Kept.{kept_bytes, kept_one}
@@ -107,12 +107,6 @@ rounds_are_one old mid new before then after first next last one two =
 pub each_is_heard_at_once : EachIsHeardAtOnce
 each_is_heard_at_once old new before after first last served peer = turn.each_is_heard first last served.steps served.runs peer
 
--- a place within a list has what it has, whatever else would be told
-get_any : {X : Type 0} (xs : List X) (at : ℕ) (a b : X) → at < length xs → get_or xs at a ≡ get_or xs at b
-get_any [] at a b within = absurd (omega (arith, within))
-get_any (x ∷ xs) zero a b within = refl
-get_any (x ∷ xs) (suc at) a b within = (let less : at < length xs = omega (arith, within) in get_any xs at a b less)
-
 -- a peer of whom nothing is known
 abbrev nobody : Peer
 nobody = record { left = None; out = None; pending = []; waiting = [] }
@@ -136,15 +130,15 @@ module _ {H P : Type 0} (answered : Answered H) (lost : Loses H) (peer : P → P
 
   -- a round
   pub round_served : (old new : H) (before after : List P) → AreTurns answered lost peer is_over old new before after (Ok tt) → (first : ℕ → Peer) → Stands peer is_over first before
-      → IsRound peer is_over (host old) (host new) (kept old) (kept new) first after
+      → IsRound peer is_over (host old) (host new) (kept old) (kept new) first before after
   unfolding served_by
   round_served old new before after turns first stands =
       let reached = turns first stands in
-      record { last = reached.next; stands = reached.stands; served = served_by old new first reached.next reached.steps reached.runs reached.leads; late = reached.late }
+      record { last = reached.next; stands = reached.stands; served = served_by old new first reached.next reached.steps reached.runs reached.leads; late = reached.late; gone = reached.gone }
 
   -- one that was cut off
   pub round_cut : (old new : H) (before after : List P) (why : Lost) → AreTurns answered lost peer is_over old new before after (Err why) → (first : ℕ → Peer) → Stands peer is_over first before
-      → IsCutOff (host old) (host new) (kept old) first
+      → IsCutOff peer (host old) (host new) (kept old) first before after
   unfolding served_by
   round_cut old new before after why turns first stands =
       let reached = turns first stands in
@@ -155,6 +149,7 @@ module _ {H P : Type 0} (answered : Answered H) (lost : Loses H) (peer : P → P
         last = reached.next;
         served = served_by old reached.leads.mid first reached.next reached.steps reached.runs reached.leads.chain;
         late = reached.late;
+        gone = reached.gone;
         frame = reached.leads.frame;
         right = reached.leads.right;
         reply = loss.0;
@@ -179,14 +174,15 @@ module _ {H P : Type 0} (answered : Answered H) (lost : Loses H) (peer : P → P
         answered_so_far (host old) (host new) (frames ++ cut.frame ∷ []) (replies ++ cut.reply ∷ []) (run_on (host old) cut.mid (host new) frames replies cut.frame cut.reply cut.served.answered.ran cut.step),
       )
 
-pub cut_off : (old new : HostState) (before : Option (List ℕ)) (first : ℕ → Peer) → IsCutOff old new before first → IsCutOff old new before first ⊎ IsUnsynced old new before first
-cut_off old new before first cut = inl cut
-
 module _ {P : Type 0} where
+  pub cut_off : (peer : P → Peer) (old new : HostState) (before : Option (List ℕ)) (first : ℕ → Peer) (parties left : List P) → IsCutOff peer old new before first parties left
+      → IsCutOff peer old new before first parties left ⊎ IsUnsynced peer old new before first parties left
+  cut_off peer old new before first parties left cut = inl cut
+
   -- turns of all, and then a sync
-  pub ended_by : (peer : P → Peer) (is_over : P → Bool) (old mid new : HostState) (before then after : Option (List ℕ)) (first : ℕ → Peer) (parties : List P) (result : Result (Unit {0}) NotKept) → new ≡ mid → Keeps then after
-      → IsRound peer is_over old mid before then first parties → EndsRound peer is_over old new before after first parties result
-  ended_by peer is_over old mid new before then after first parties (Ok done) same kept round = record {
+  pub ended_by : (peer : P → Peer) (is_over : P → Bool) (old mid new : HostState) (before then after : Option (List ℕ)) (first : ℕ → Peer) (parties left : List P) (result : Result (Unit {0}) NotKept) → new ≡ mid → Keeps then after
+      → IsRound peer is_over old mid before then first parties left → EndsRound peer is_over old new before after first parties left result
+  ended_by peer is_over old mid new before then after first parties left (Ok done) same kept round = record {
     last = round.last;
     stands = round.stands;
     served = record {
@@ -196,8 +192,9 @@ module _ {P : Type 0} where
       kept = Appends-kept before then after (kept_bytes (frames_in round.served.steps) (replies_in round.served.steps)) round.served.kept kept;
     };
     late = round.late;
+    gone = round.gone;
   }
-  ended_by peer is_over old mid new before then after first parties (Err lost) same kept round = inr (record {
+  ended_by peer is_over old mid new before then after first parties left (Err lost) same kept round = inr (record {
     kept = then;
     last = round.last;
     served = record {
@@ -207,6 +204,7 @@ module _ {P : Type 0} where
       kept = round.served.kept;
     };
     late = round.late;
+    gone = round.gone;
   })
 
 module _ {H P : Type 0} (answered : Answered H) (lost : Loses H) (peer : P → Peer) (is_over : P → Bool) where

@@ -6,7 +6,7 @@ use Rattle.fork_host.specs.Shown.{HostState}
 use Rattle.fork_host.specs.Step.{IsStep}
 use Rattle.fork_frame.specs.Frame.{IsFrame}
 use Rattle.fork_frame.specs.declared.frame.Frame.{Frame}
-use Rattle.fork_connection.specs.Rounds.{Stands}
+use Rattle.fork_connection.specs.Rounds.{GoesOut, Stands}
 use Rattle.fork_connection.specs.Turns.{Act, Answers, IsHeard, Peer, Reads, Refuses, Runs, SendsWhatWaited, Step, Writes, acts_at, acts_of, asked}
 use Rattle.fork_wire.specs.Kept.{kept_bytes}
 use Rattle.fork_wire.specs.Sessions.{IsAnswered, event_of}
@@ -40,35 +40,38 @@ abbrev pub SendsLate : (ℕ → Peer) → List Step → Type 0
 SendsLate first steps = (place : ℕ) → SendsWhatWaited (first place) (acts_at place steps)
 
 -- the same, up to a frame that was answered and could not be kept: nothing was done after that, so its reply did not go out
-pub record IsCutOff (old new : HostState) (before : Option (List ℕ)) (first : ℕ → Peer) : Type 0 where
+pub record IsCutOff {P : Type 0} (peer : P → Peer) (old new : HostState) (before : Option (List ℕ)) (first : ℕ → Peer) (parties left : List P) : Type 0 where
   pub mid : HostState
   pub kept : Option (List ℕ)
   pub last : ℕ → Peer
   pub served : IsServedAtOnce old mid before kept first last
   pub late : SendsLate first served.steps
+  pub gone : GoesOut peer parties left served.steps
   pub frame : Frame
   pub right : IsFrame frame
   pub reply : Reply
   pub step : IsStep mid (event_of frame) reply new
 
 -- a round of whatever connections stand in a table led to those that stand in another, and only what waited before it went out
-pub record IsRound {P : Type 0} (peer : P → Peer) (is_over : P → Bool) (old new : HostState) (before after : Option (List ℕ)) (first : ℕ → Peer) (parties : List P) : Type 0 where
+pub record IsRound {P : Type 0} (peer : P → Peer) (is_over : P → Bool) (old new : HostState) (before after : Option (List ℕ)) (first : ℕ → Peer) (parties left : List P) : Type 0 where
   pub last : ℕ → Peer
-  pub stands : Stands peer is_over last parties
+  pub stands : Stands peer is_over last left
   pub served : IsServedAtOnce old new before after first last
   pub late : SendsLate first served.steps
+  pub gone : GoesOut peer parties left served.steps
 
 -- turns of all of them, of which what was kept could not be synced, so that no reply to it went out
-pub record IsUnsynced (old new : HostState) (before : Option (List ℕ)) (first : ℕ → Peer) : Type 0 where
+pub record IsUnsynced {P : Type 0} (peer : P → Peer) (old new : HostState) (before : Option (List ℕ)) (first : ℕ → Peer) (parties left : List P) : Type 0 where
   pub kept : Option (List ℕ)
   pub last : ℕ → Peer
   pub served : IsServedAtOnce old new before kept first last
   pub late : SendsLate first served.steps
+  pub gone : GoesOut peer parties left served.steps
 
 -- such a round, or one that was cut off, or one that could not be synced
-abbrev pub EndsRound : {P : Type 0} (peer : P → Peer) (is_over : P → Bool) → HostState → HostState → Option (List ℕ) → Option (List ℕ) → (ℕ → Peer) → List P → Result (Unit {0}) NotKept → Type 0
-EndsRound peer is_over old new before after first parties (Ok done) = IsRound peer is_over old new before after first parties
-EndsRound peer is_over old new before after first parties (Err lost) = IsCutOff old new before first ⊎ IsUnsynced old new before first
+abbrev pub EndsRound : {P : Type 0} (peer : P → Peer) (is_over : P → Bool) → HostState → HostState → Option (List ℕ) → Option (List ℕ) → (ℕ → Peer) → List P → List P → Result (Unit {0}) NotKept → Type 0
+EndsRound peer is_over old new before after first parties left (Ok done) = IsRound peer is_over old new before after first parties left
+EndsRound peer is_over old new before after first parties left (Err lost) = IsCutOff peer old new before first parties left ⊎ IsUnsynced peer old new before first parties left
 
 -- rounds, one after another, are one serving
 abbrev pub RoundsAreOne : Type 0

@@ -74,7 +74,7 @@ pub fn serve_round<S: LooseFiles, J: Journal, R: Read, W: Write>(
     most: usize,
 ) -> Result<(), NotKept>
     ensures served { (first : ℕ → Peer) → Stands (peer_in R.remaining W.contents) has_ended first parties.old
-        → EndsRound (peer_in R.remaining W.contents) has_ended host.old host.new (J.kept journal.old) (J.kept journal.new) first parties.new result }
+        → EndsRound (peer_in R.remaining W.contents) has_ended host.old host.new (J.kept journal.old) (J.kept journal.new) first parties.old parties.new result }
     ensures ran { (frames : List Asked) × (replies : List Told) × IsAnswered host.old host.new frames replies }
     ensures synced { OnOk result (Keeps (J.synced journal.old) (J.kept journal.old) → Keeps (J.synced journal.new) (J.kept journal.new)) }
     ensures cause { IfErr result (λ _. J.can_fail) }
@@ -99,9 +99,9 @@ fn turns<S: LooseFiles, J: Journal, R: Read, W: Write>(
     most: usize,
 ) -> Result<(), NotKept>
     ensures served { OnOk result ((first : ℕ → Peer) → Stands (peer_in R.remaining W.contents) has_ended first parties.old
-        → IsRound (peer_in R.remaining W.contents) has_ended keeping.old.host.now keeping.new.host.now (J.kept keeping.old.journal.now) (J.kept keeping.new.journal.now) first parties.new) }
+        → IsRound (peer_in R.remaining W.contents) has_ended keeping.old.host.now keeping.new.host.now (J.kept keeping.old.journal.now) (J.kept keeping.new.journal.now) first parties.old parties.new) }
     ensures stopped { OnErr result ((first : ℕ → Peer) → Stands (peer_in R.remaining W.contents) has_ended first parties.old
-        → IsCutOff keeping.old.host.now keeping.new.host.now (J.kept keeping.old.journal.now) first) }
+        → IsCutOff (peer_in R.remaining W.contents) keeping.old.host.now keeping.new.host.now (J.kept keeping.old.journal.now) first parties.old parties.new) }
     ensures ran { (frames : List Asked) × (replies : List Told) × IsAnswered keeping.old.host.now keeping.new.host.now frames replies }
     ensures synced { OnOk result (SyncedIf keeping.old.is_synced (J.synced keeping.old.journal.now) (J.kept keeping.old.journal.now)
         → SyncedIf keeping.new.is_synced (J.synced keeping.new.journal.now) (J.kept keeping.new.journal.now)) }
@@ -127,7 +127,7 @@ fn keep_round<S: LooseFiles, J: Journal, R: Read, W: Write>(
     most: usize,
 ) -> Result<(), NotKept>
     ensures served { (first : ℕ → Peer) → Stands (peer_in R.remaining W.contents) has_ended first parties.old
-        → EndsRound (peer_in R.remaining W.contents) has_ended keeping.old.host.now keeping.new.host.now (J.kept keeping.old.journal.now) (J.kept keeping.new.journal.now) first parties.new result }
+        → EndsRound (peer_in R.remaining W.contents) has_ended keeping.old.host.now keeping.new.host.now (J.kept keeping.old.journal.now) (J.kept keeping.new.journal.now) first parties.old parties.new result }
     ensures ran { (frames : List Asked) × (replies : List Told) × IsAnswered keeping.old.host.now keeping.new.host.now frames replies }
     ensures synced { OnOk result (SyncedIf keeping.old.is_synced (J.synced keeping.old.journal.now) (J.kept keeping.old.journal.now) → Keeps (J.synced keeping.new.journal.now) (J.kept keeping.new.journal.now)) }
     ensures cause { IfErr result (λ _. J.can_fail) }

@@ -28,18 +28,20 @@ pub trait Journal {
     /// Whether keeping or syncing failed, so that the last frames may be incomplete.
     ghost is_cut: { Self → Bool };
 
-    /// Appends a frame.
+    /// Appends a frame. A journal that was cut keeps nothing more.
     fn keep(&mut self, frame: &Frame) -> Result<(), NotKept>
         ensures ok { OnOk result (Appends (kept self.old) (kept self.new) (frame_bytes frame.now)) }
         ensures cause { IfErr result (λ _. can_fail) }
+        ensures open { OnOk result (is_cut self.old ≡ false) }
         ensures whole { OnOk result (is_cut self.new ≡ is_cut self.old) }
         ensures cut { OnErr result (is_cut self.new ≡ true) };
 
-    /// Syncs all that was kept, so that a loss of power leaves it.
+    /// Syncs all that was kept, so that a loss of power leaves it. A journal that was cut is not synced.
     fn sync(&mut self) -> Result<(), NotKept>
         ensures ok { OnOk result (Keeps (synced self.new) (kept self.new)) }
         ensures kept { Keeps (kept self.old) (kept self.new) }
         ensures cause { IfErr result (λ _. can_fail) }
+        ensures open { OnOk result (is_cut self.old ≡ false) }
         ensures whole { OnOk result (is_cut self.new ≡ is_cut self.old) }
         ensures cut { OnErr result (is_cut self.new ≡ true) };
 }
@@ -133,6 +135,9 @@ impl<W: SyncData> Journal for Written<W> {
     ghost is_cut = { λ journal. journal.is_cut };
 
     fn keep(&mut self, frame: &Frame) -> Result<(), NotKept> {
+        if self.is_cut {
+            return Err(NotKept);
+        }
         self.frame.clear();
         let Ok(()) = write_frame(&mut self.frame, frame) else {
             self.is_cut = true;
@@ -150,16 +155,16 @@ impl<W: SyncData> Journal for Written<W> {
     }
 
     fn sync(&mut self) -> Result<(), NotKept> {
-        if self.is_cut {
-            return Err(NotKept);
+        match (self.is_cut, self.syncs) {
+            (true, _) => Err(NotKept),
+            (false, false) => Ok(()),
+            (false, true) => {
+                let Ok(()) = self.writer.sync() else {
+                    self.is_cut = true;
+                    return Err(NotKept);
+                };
+                Ok(())
+            }
         }
-        if !self.syncs {
-            return Ok(());
-        }
-        let Ok(()) = self.writer.sync() else {
-            self.is_cut = true;
-            return Err(NotKept);
-        };
-        Ok(())
     }
 }

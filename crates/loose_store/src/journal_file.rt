@@ -94,6 +94,7 @@ fn begin_in<R: Files>(rt: &R, alloc: Global, folder: &str, standing: Name) -> io
     create_folder(rt, home.as_str())?;
     let mut file = create_file(rt, part.as_str())?;
     file.write_all(line_of(standing).as_slice())?;
+    sync_folder(rt, home.as_str())?;
     Ok(file)
 }
 
@@ -173,7 +174,8 @@ pub fn open_old_journal<R: Files>(
 }
 
 /// A new journal that has no name yet, with its first line written. `standing` is the name of the state's text
-/// in the folder. This process must have the folder open (`Folder::open`).
+/// in the folder. The names in the folder of journals are synced, so a journal that was cleared before does not
+/// come back beside one that says nothing of it. This process must have the folder open (`Folder::open`).
 pub fn begin_journal<R: Files>(
     rt: &R,
     alloc: Global,

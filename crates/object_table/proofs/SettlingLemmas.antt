@@ -7,8 +7,8 @@ use Rattle.std.specs.FinMap.{contains_key, get}
 use Rattle.std.proofs.lemmas.Bool.{eq-eqb, eqb-true}
 use Rattle.git_name.specs.Same.{same_name}
 use Rattle.number_sets.specs.Numbers.{has}
+use Rattle.fork_reach.specs.declared.usage.TheConstants.{OBJECT_USE}
 use Rattle.object_table.specs.declared.row.Row.{Row}
-use Rattle.object_table.specs.declared.usage.TheConstants.{WORD_USE}
 use Rattle.object_table.specs.Rows.{AreRows, IsUsed, Rows, TableState, TellSame, count_in, one_if, places_of, row_in, told_of}
 use Rattle.object_table.specs.Totals.{seen_use, total_of, use_of_word, used_by}
 use Rattle.object_table.specs.Views.{IsOne, IsOwn, Moves, Sets, holds, word_by, word_in, words_of}
@@ -27,7 +27,7 @@ module _ (rows : Rows) (own : Sets) (name : List ℕ) (row : Row) (are : AreRows
   pub count_before : count_in rows name ≡ row.holders
   count_before = ap (λ o. option_map_or (λ (r : Row). r.holders) o 0) here
 
-  pub seen_within : cond (has own.visible row.number) (row.length + WORD_USE) 0 ≤ own.used
+  pub seen_within : cond (has own.visible row.number) (row.length + OBJECT_USE) 0 ≤ own.used
   unfolding used_by
   seen_within =
       let within = worth_within seen_use (words_of rows own) name in
@@ -35,7 +35,7 @@ module _ (rows : Rows) (own : Sets) (name : List ℕ) (row : Row) (are : AreRows
       let used = one.own.visible in
       omega (arith, within, is, used)
 
-  pub use_within : cond (holds own row.number) (row.length + WORD_USE) 0 ≤ own.total
+  pub use_within : cond (holds own row.number) (row.length + OBJECT_USE) 0 ≤ own.total
   unfolding total_of
   use_within =
       let within = worth_within use_of_word (words_of rows own) name in
@@ -57,7 +57,7 @@ at_most false n = omega arith
 pub used_small : (rows : Rows) (own : Sets) → AreRows rows → IsOwn rows own → own.used ≤ 4294967295 * most
 unfolding used_by
 used_small rows own are one =
-    let all = sum_bounded seen_use rows own are.distinct (λ q row here. (let s = are.short q row here in let is = seen_there row (has own.visible row.number) (has own.staged row.number) in let m = at_most (has own.visible row.number) (row.length + WORD_USE) in omega (arith, s, is, m))) in
+    let all = sum_bounded seen_use rows own are.distinct (λ q row here. (let s = are.short q row here in let is = seen_there row (has own.visible row.number) (has own.staged row.number) in let m = at_most (has own.visible row.number) (row.length + OBJECT_USE) in omega (arith, s, is, m))) in
     let few = are.few in
     let used = one.visible in
     omega (arith, all, few, used)
@@ -65,7 +65,7 @@ used_small rows own are one =
 pub total_small : (rows : Rows) (own : Sets) → AreRows rows → IsOwn rows own → own.total ≤ 4294967295 * most
 unfolding total_of
 total_small rows own are one =
-    let all = sum_bounded use_of_word rows own are.distinct (λ q row here. (let s = are.short q row here in let is = use_there row (has own.visible row.number) (has own.staged row.number) in let m = at_most (holds own row.number) (row.length + WORD_USE) in omega (arith, s, is, m))) in
+    let all = sum_bounded use_of_word rows own are.distinct (λ q row here. (let s = are.short q row here in let is = use_there row (has own.visible row.number) (has own.staged row.number) in let m = at_most (holds own row.number) (row.length + OBJECT_USE) in omega (arith, s, is, m))) in
     let few = are.few in
     let total = one.both in
     omega (arith, all, few, total)
@@ -78,8 +78,8 @@ module _ (old new : TableState) (own after : Sets) (name : List ℕ) (row now : 
     (told : told_of now ≡ told_of row) (counted : now.holders + cond (holds own row.number) 1 0 ≡ row.holders + cond (v || s) 1 0)
     (places : places_of new ≡ places_of old) (written : (q : List ℕ) → row_in new.entries q ≡ cond (same_name name q) (Some now) (row_in old.entries q))
     (visible : (n : ℕ) → has after.visible n ≡ cond (nat_eq n row.number) v (has own.visible n)) (staged : (n : ℕ) → has after.staged n ≡ cond (nat_eq n row.number) s (has own.staged n))
-    (used : after.used + cond (has own.visible row.number) (row.length + WORD_USE) 0 ≡ own.used + cond v (row.length + WORD_USE) 0)
-    (total : after.total + cond (holds own row.number) (row.length + WORD_USE) 0 ≡ own.total + cond (v || s) (row.length + WORD_USE) 0) where
+    (used : after.used + cond (has own.visible row.number) (row.length + OBJECT_USE) 0 ≡ own.used + cond v (row.length + OBJECT_USE) 0)
+    (total : after.total + cond (holds own row.number) (row.length + OBJECT_USE) 0 ≡ own.total + cond (v || s) (row.length + OBJECT_USE) 0) where
   keys : keys_of new.entries ≡ keys_of old.entries
   keys = ap (λ p. p.names) places
 

@@ -9,9 +9,9 @@ use Rattle.git_name.specs.Name.{name_cmp}
 use Rattle.git_name.specs.Same.{same_name}
 use Rattle.git_name.proofs.HashMaps.{distinct_by_order, get_of_hashed, one_name}
 use Rattle.git_name.proofs.Names.{name_exact, name_total}
+use Rattle.fork_reach.specs.declared.usage.TheConstants.{OBJECT_USE}
 use Rattle.object_table.specs.Chosen.{chosen_in}
 use Rattle.object_table.specs.declared.row.Row.{Row}
-use Rattle.object_table.specs.declared.usage.TheConstants.{WORD_USE}
 use Rattle.object_table.specs.declared.word.Word.{Word}
 use Rattle.object_table.specs.Rows.{IsUsed, Rows, TellSame, row_in, told_of}
 use Rattle.object_table.specs.Totals.{seen_use, use_of_word}
@@ -74,13 +74,13 @@ word_there row false true = refl
 word_there row false false = refl
 
 -- what it uses
-pub seen_there : (row : Row) (v s : Bool) → worth seen_use (word_by row v s) ≡ cond v (row.length + WORD_USE) 0
+pub seen_there : (row : Row) (v s : Bool) → worth seen_use (word_by row v s) ≡ cond v (row.length + OBJECT_USE) 0
 seen_there row true true = refl
 seen_there row true false = refl
 seen_there row false true = refl
 seen_there row false false = refl
 
-pub use_there : (row : Row) (v s : Bool) → worth use_of_word (word_by row v s) ≡ cond (v || s) (row.length + WORD_USE) 0
+pub use_there : (row : Row) (v s : Bool) → worth use_of_word (word_by row v s) ≡ cond (v || s) (row.length + OBJECT_USE) 0
 use_there row true true = refl
 use_there row true false = refl
 use_there row false true = refl

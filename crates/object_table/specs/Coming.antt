@@ -4,9 +4,9 @@ use Rattle.std.specs.FinMap.{get, insert}
 use Rattle.std.specs.List.{filter_map}
 use Rattle.std.specs.Option.{option_map_or}
 use Rattle.git_name.specs.declared.kind.Kind.{Kind}
+use Rattle.fork_reach.specs.declared.usage.TheConstants.{OBJECT_USE}
 use Rattle.object_table.specs.Adopted.{seen_too}
 use Rattle.object_table.specs.declared.entry.Entry.{Entry}
-use Rattle.object_table.specs.declared.usage.TheConstants.{WORD_USE}
 use Rattle.object_table.specs.declared.word.Standing.TheVariants.{Visible}
 use Rattle.object_table.specs.declared.word.Word.{Word}
 use Rattle.object_table.specs.Words.{Words, is_visible, with_standing}
@@ -26,7 +26,7 @@ coming_in shown own names = filter_map (λ name. coming_at name (get shown name)
 
 -- what the object of an entry uses
 abbrev pub use_of_entry : Entry → ℕ
-use_of_entry entry = entry.length + WORD_USE
+use_of_entry entry = entry.length + OBJECT_USE
 
 -- the word of an object that comes to be seen: the one that was there, or else that of the kind and length that come
 abbrev pub seen_over : Kind → ℕ → Option Word → Word

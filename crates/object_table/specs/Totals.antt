@@ -1,13 +1,13 @@
 -- What the objects of a ledger use, kept beside its words (own).
 use Rattle.std.specs.Prelude.{◌+◌, ℕ, min, sum_by, if◌then◌else◌}
 use Rattle.std.specs.FinMap.{values}
-use Rattle.object_table.specs.declared.usage.TheConstants.{WORD_USE}
+use Rattle.fork_reach.specs.declared.usage.TheConstants.{OBJECT_USE}
 use Rattle.object_table.specs.declared.word.Word.{Word}
 use Rattle.object_table.specs.Words.{Words, is_visible}
 
 -- what an object uses: its length, and so much beside it
 abbrev pub use_of_word : Word → ℕ
-use_of_word word = word.length + WORD_USE
+use_of_word word = word.length + OBJECT_USE
 
 -- the same, where the tenant sees it
 abbrev pub seen_use : Word → ℕ

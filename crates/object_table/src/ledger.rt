@@ -2,7 +2,7 @@ ghost use Rattle.std.specs.Prelude.{◌≡◌, ◌<◌, ◌≤◌, ◌+◌, ◌^
 ghost use Rattle.number_sets.specs.Numbers.{has, has_room};
 ghost use Rattle.object_table.specs.Views.{holds};
 
-use crate::usage::WORD_USE;
+use fork_reach::OBJECT_USE;
 use number_sets::NumberSet;
 use std::alloc::{AllocError, Global};
 use std::marker::Model;
@@ -194,7 +194,7 @@ fn moved(sum: u128, size: u128, was: bool, is: bool) -> u128
 
 /// The use of an object of this length.
 pub(crate) fn size_of(length: u64) -> u128
-    ensures { result ≡ length + WORD_USE }
+    ensures { result ≡ length + OBJECT_USE }
 {
-    length as u128 + WORD_USE as u128
+    length as u128 + OBJECT_USE as u128
 }

@@ -21,12 +21,10 @@ mod settling;
 mod stage_fault;
 mod staging;
 mod table;
-mod usage;
 mod word;
 
 pub use crate::entry::Entry;
 pub use crate::holdings::Holdings;
 pub use crate::name_set::NameSet;
 pub use crate::stage_fault::StageFault;
-pub use crate::usage::WORD_USE;
 pub use crate::word::{Standing, Word};

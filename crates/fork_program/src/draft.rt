@@ -1,0 +1,174 @@
+ghost use Rattle.std.specs.Prelude.{◌≡◌, IfErr, IfOk};
+ghost use Rattle.fork_program.specs.Keeping.{IsSaved, IsTextOf};
+
+use crate::fault::Fault;
+use chained_log::LogWriter;
+use fork_host::Host;
+use fork_wire::write_uploads;
+use git_name::Name;
+use loose_store::{
+    LooseFiles, begin_journal, clear_journals, journal_name, read_state, settle_journal, write_state,
+};
+use std::alloc::Global;
+use std::fs::{File, Files};
+
+// A state to be saved, its name, and the journal after it, which may begin with the open uploads.
+#[derive(Drop)]
+pub(crate) struct Draft {
+    pub(crate) state: Vec<u8>,
+    name: Name,
+    journal: LogWriter<File>,
+    uploads: u64,
+}
+
+// The name of the state in a folder.
+pub(crate) fn standing_name<H: Files<File = File>>(rt: &H, alloc: Global, dir: &str) -> Result<Name, Fault>
+    ensures { IfErr result (λ fault. fault ≡ Fault.NotSaved) }
+{
+    match read_state(rt, alloc, dir) {
+        Ok(Some(state)) => Ok(journal_name(state.as_slice())),
+        Ok(None) => Ok(journal_name(b"")),
+        Err(_) => Err(Fault::NotSaved),
+    }
+}
+
+// An empty journal after the state of this name, begun over the state in the folder. What is beside the journal in
+// the folder is removed first, so a kill leaves at most this one beside it.
+fn unnamed<H: Files<File = File> + AllocGlobal>(
+    rt: &H,
+    alloc: Global,
+    dir: &str,
+    standing: Name,
+    name: Name,
+) -> Result<LogWriter<File>, Fault>
+    ensures { IfErr result (λ fault. fault ≡ Fault.NotSaved) }
+{
+    let Ok(()) = clear_journals(&rt, alloc, dir, standing) else {
+        return Err(Fault::NotSaved);
+    };
+    let Ok(file) = begin_journal(rt, alloc, dir, standing) else {
+        return Err(Fault::NotSaved);
+    };
+    match LogWriter::new(alloc, file, *name.as_bytes()) {
+        Ok(journal) => Ok(journal),
+        Err(_) => Err(Fault::NotSaved),
+    }
+}
+
+// Drafts the host's state, with an empty journal. The folder still has its old state and its journal.
+pub(crate) fn closed<H: Files<File = File> + AllocGlobal, S: LooseFiles>(
+    rt: &H,
+    alloc: Global,
+    dir: &str,
+    standing: Name,
+    host: &Host<S>,
+) -> Result<Draft, Fault>
+    ensures cause { IfErr result (λ fault. fault ≡ Fault.NotSaved) }
+    ensures text { IfOk result (λ draft. IsTextOf host.now draft.state.items) }
+{
+    let Ok(state) = fork_state::save(alloc, host) else {
+        return Err(Fault::NotSaved);
+    };
+    let name = journal_name(state.as_slice());
+    let journal = unnamed(rt, alloc, dir, standing, name)?;
+    Ok(Draft {
+        state,
+        name,
+        journal,
+        uploads: 0,
+    })
+}
+
+// The same, but that the journal begins with the open uploads.
+pub(crate) fn drafted<H: Files<File = File> + AllocGlobal, S: LooseFiles>(
+    rt: &H,
+    alloc: Global,
+    dir: &str,
+    standing: Name,
+    host: &mut Host<S>,
+) -> Result<Draft, Fault>
+    ensures cause { IfErr result (λ fault. fault ≡ Fault.NotSaved) }
+    ensures saved { IsSaved host.old host.new }
+    ensures text { IfOk result (λ draft. IsTextOf host.old draft.state.items) }
+{
+    let Ok(text) = fork_state::save(alloc, host) else {
+        return Err(Fault::NotSaved);
+    };
+    drafted_as(rt, alloc, dir, standing, host, text)
+}
+
+// Drafts a state of this text, with a journal that begins with the host's open uploads.
+pub(crate) fn drafted_as<H: Files<File = File> + AllocGlobal, S: LooseFiles>(
+    rt: &H,
+    alloc: Global,
+    dir: &str,
+    standing: Name,
+    host: &mut Host<S>,
+    text: Vec<u8>,
+) -> Result<Draft, Fault>
+    ensures cause { IfErr result (λ fault. fault ≡ Fault.NotSaved) }
+    ensures saved { IsSaved host.old host.new }
+    ensures text { IfOk result (λ draft. draft.state.items ≡ text.items) }
+{
+    let name = journal_name(text.as_slice());
+    let mut journal = unnamed(rt, alloc, dir, standing, name)?;
+    let Ok(uploads) = write_uploads(host, alloc, &mut journal) else {
+        return Err(Fault::NotSaved);
+    };
+    Ok(Draft {
+        state: text,
+        name,
+        journal,
+        uploads,
+    })
+}
+
+// A drafted state that is in place.
+#[derive(Drop)]
+pub(crate) struct Settled {
+    pub(crate) journal: LogWriter<File>,
+    pub(crate) name: Name,
+    pub(crate) saved: u64,
+}
+
+// Puts a host's drafted state in its place: the object files are synced first, then the journal gets the name
+// of the state that is to come, and then comes the state, unless it is the one that stands there. So at each
+// moment the state that stands there has its journal and its objects, and one step, of the state's name or of
+// the journal's, takes the old ones away.
+pub(crate) fn put<H: Files<File = File> + AllocGlobal, S: LooseFiles>(
+    rt: &H,
+    alloc: Global,
+    dir: &str,
+    host: &mut Host<S>,
+    standing: Option<Name>,
+    draft: Draft,
+) -> Result<Settled, Fault>
+    ensures cause { IfErr result (λ fault. fault ≡ Fault.NotSaved) }
+    ensures host { host.new ≡ host.old }
+{
+    let Draft {
+        state,
+        name,
+        journal,
+        uploads,
+    } = draft;
+    let Ok(()) = host.sync(alloc) else {
+        return Err(Fault::NotSaved);
+    };
+    let Ok(()) = settle_journal(rt, alloc, dir, name, journal.writer()) else {
+        return Err(Fault::NotSaved);
+    };
+    if standing != Some(name) {
+        let Ok(()) = write_state(rt, alloc, dir, state.as_slice()) else {
+            return Err(Fault::NotSaved);
+        };
+    }
+    // What is left of older journals, and of what was swept, does no harm. The next saving removes it.
+    let _cleared = clear_journals(&rt, alloc, dir, name);
+    let _forgotten = host.forget_removed(alloc);
+    Ok(Settled {
+        journal,
+        name,
+        saved: uploads.saturating_add(state.len() as u64),
+    })
+}

@@ -3,7 +3,7 @@
 #![tactic(auto)]
 
 mod fault;
-mod law;
+mod laws;
 mod next;
 mod piece;
 mod reader;
@@ -12,7 +12,7 @@ mod sync;
 mod writer;
 
 pub use crate::fault::Ended;
-pub use crate::law::what_is_written_is_found;
+pub use crate::laws::what_is_written_is_found;
 pub use crate::next::{Found, next_piece};
 pub use crate::reader::LogReader;
 pub use crate::sync::SyncData;

@@ -7,13 +7,13 @@
 mod answering;
 mod connection;
 mod inbox;
-mod law;
+mod laws;
 mod outbox;
 mod party;
 mod piece;
 mod rounds;
 
 pub use crate::answering::{Answering, Lost};
-pub use crate::law::{cuts_change_nothing, each_is_heard};
+pub use crate::laws::{cuts_change_nothing, each_is_heard};
 pub use crate::party::Party;
 pub use crate::rounds::round;

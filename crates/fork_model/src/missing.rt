@@ -1,6 +1,6 @@
-ghost use Rattle.std.specs.Prelude.{◌≡◌, ℕ, List, Some, false};
+ghost use Rattle.std.specs.Prelude.{◌≡◌, ℕ, List, None, Some, false};
 ghost use Rattle.std.specs.FinMap.{get, insert};
-ghost use Rattle.fork_request.specs.Asked.{Ask};
+ghost use Rattle.fork_request.specs.Asked.{Ask, AsksObject};
 ghost use Rattle.fork_request.specs.Told.{is_host_fault};
 ghost use Rattle.fork_request.specs.declared.refusal.Refusal.TheVariants.{Missing};
 ghost use Rattle.fork_request.specs.declared.reply.Reply.{Reply};
@@ -29,4 +29,14 @@ pub fn what_is_lacking_is_missing()
     ensures only { (context : Context) (view : View) (name : List ℕ) (ask : Ask) → (answer context view ask).0 ≡ Refused (Missing name) → IsMissing view name ask }
     ensures only_step { (old new : World) (tenant : List ℕ) (view : View) (name : List ℕ) (ask : Ask)
         → get old tenant ≡ Some view → Steps old (Asks tenant ask) (Refused (Missing name)) new → IsMissing view name ask }
+{}
+
+/// An object that a tenant does not hold is reported as missing, whatever others hold: by the answer,
+/// and so in each step without a host fault.
+pub fn what_is_not_held_is_missing()
+    ensures answer { (context : Context) (view : View) (name : List ℕ) → get view.objects name ≡ None → answer context view (AsksObject name) ≡ (Refused (Missing name), view) }
+    ensures step { (old new : World) (tenant : List ℕ) (view : View) (name : List ℕ) (reply : Reply)
+        → get old tenant ≡ Some view → get view.objects name ≡ None
+        → Steps old (Asks tenant (AsksObject name)) reply new → is_host_fault reply ≡ false
+        → reply ≡ Refused (Missing name) }
 {}

@@ -7,8 +7,8 @@ ghost use Rattle.fork_program.specs.Changing.{IsLimitSet, IsLimitUnset, IsNotAdd
 ghost use Rattle.fork_program.specs.Keeping.{IsUnkept};
 
 use crate::fault::Fault;
-use crate::saving::{save, save_as};
 use crate::keeping::standing_host;
+use crate::saving::{save, save_as};
 use crate::tenants::add;
 use fork_command::Grant;
 use fork_host::Host;

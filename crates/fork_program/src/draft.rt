@@ -7,7 +7,8 @@ use fork_host::Host;
 use fork_wire::write_uploads;
 use git_name::Name;
 use loose_store::{
-    LooseFiles, begin_journal, clear_journals, journal_name, read_state, settle_journal, write_state,
+    LooseFiles, begin_journal, clear_journals, journal_name, read_state, settle_journal,
+    write_state,
 };
 use std::alloc::Global;
 use std::fs::{File, Files};
@@ -22,7 +23,11 @@ pub(crate) struct Draft {
 }
 
 // The name of the state in a folder.
-pub(crate) fn standing_name<H: Files<File = File>>(rt: &H, alloc: Global, dir: &str) -> Result<Name, Fault>
+pub(crate) fn standing_name<H: Files<File = File>>(
+    rt: &H,
+    alloc: Global,
+    dir: &str,
+) -> Result<Name, Fault>
     ensures { IfErr result (λ fault. fault ≡ Fault.NotSaved) }
 {
     match read_state(rt, alloc, dir) {

@@ -21,7 +21,7 @@ mod hash_object;
 mod hosts;
 mod keep;
 mod keeping;
-mod law;
+mod laws;
 mod listening;
 mod patience;
 mod peer;
@@ -41,5 +41,5 @@ mod watch;
 
 pub use crate::cause::tell_cause;
 pub use crate::entry::{Untold, program};
-pub use crate::law::a_serving_is_one_run;
+pub use crate::laws::a_serving_is_one_run;
 pub use crate::rights::tell_rights;

@@ -2,8 +2,8 @@ ghost use Rattle.std.specs.Prelude.{IfErr, OnOk};
 ghost use Rattle.fork_program.specs.Keeping.{IsNotUpgraded, IsRenewed, IsUnrenewed, IsUpgraded};
 
 use crate::fault::Fault;
-use crate::saving::save;
 use crate::keeping::standing_host;
+use crate::saving::save;
 use crate::send::send;
 use std::alloc::Global;
 use std::fs::{File, Files};

@@ -4,12 +4,12 @@
 
 mod changing;
 mod fault;
-mod law;
+mod laws;
 mod limiting;
 mod loading;
 mod saving;
 
 pub use crate::fault::LoadFault;
-pub use crate::law::what_is_saved_is_loaded;
+pub use crate::laws::what_is_saved_is_loaded;
 pub use crate::loading::load;
 pub use crate::saving::{save, save_limited, save_without};

@@ -1,12 +1,16 @@
 -- What a text contains that is longer by a byte.
-use Rattle.std.proofs.Common.{◌≡◌, ℕ, suc, ◌<◌, ◌≤◌, ◌+◌, ◌-◌, Bool, true, false, ◌||◌, List, [], ◌∷◌, ◌++◌, ◌⊎◌, inl, inr, nat_eq, refl, sym, ap, ◌∙◌, length, take, drop, length-take, length-drop, length-append, arith}
+use Rattle.std.proofs.Common.{◌≡◌, ◌≢◌, ℕ, suc, ◌<◌, ◌≤◌, ◌+◌, ◌-◌, ◌==◌, Bool, true, false, not, ◌||◌, List, [], ◌∷◌, ◌++◌, ◌⊎◌, inl, inr, Option, None, Some, nat_eq, refl, sym, ap, ◌∙◌, length, take, drop, length-take, length-drop, length-append, append_assoc, arith}
 use Rattle.std.specs.Cmp.Lexicographic.{pointwise, unequal}
-use Rattle.std.specs.List.{list_any}
-use Rattle.std.proofs.lemmas.Bool.{cases_lt}
+use Rattle.std.specs.List.{last_or, list_any}
+use Rattle.std.specs.Option.{unwrap_or}
+use Rattle.std.proofs.lemmas.Bool.{cases_lt, eq-eqb}
+use Rattle.std.proofs.lemmas.Bool.Decides.{Decides-eqb}
+use Rattle.std.proofs.lemmas.Slice.Eq.{ends_is}
 use Rattle.std.proofs.lemmas.List.{take_all, take-append-le}
 use Rattle.std.proofs.lemmas.List.Folds.{list_any-append}
 use Rattle.std.proofs.Math.Bool.{or-false}
-use Rattle.git_refname.specs.Rule.{begins, ends, holds}
+use Rattle.git_refname.specs.Marks.{is_plain}
+use Rattle.git_refname.specs.Rule.{begins, ends, holds, is_pattern, is_unprintable}
 
 -- a text that is shorter than a part neither begins nor ends in it, nor holds it
 begins_short : (part text : List ℕ) → length text < length part → begins part text ≡ false
@@ -72,3 +76,64 @@ met part before front b was at_end some was_is at_is longer =
 pub met_byte : (test : ℕ → Bool) (before front : List ℕ) (b : ℕ) (was last : Bool) → was ≡ list_any test before → last ≡ test b → front ≡ before ++ b ∷ [] → (was || last) ≡ list_any test front
 met_byte test before front b was last was_is last_is longer =
     (λ i. was_is i || (last_is ∙ sym (or-false (test b))) i) ∙ sym (list_any-append test before (b ∷ [])) ∙ sym (ap (list_any test) longer)
+
+last_of_append : (o : Option ℕ) (xs : List ℕ) (x : ℕ) → last_or o (xs ++ x ∷ []) ≡ Some x
+last_of_append o [] x = refl
+last_of_append o (a ∷ xs) x = last_of_append (Some a) xs x
+
+-- a text does not end in a part that has another last byte
+ends_otherwise : (part xs : List ℕ) (x b : ℕ) → b ≢ x → ends (part ++ x ∷ []) (xs ++ b ∷ []) ≡ false
+ends_otherwise part xs x b other = by_case (ends (part ++ x ∷ []) (xs ++ b ∷ [])) refl
+  where
+    by_case : (e : Bool) → e ≡ ends (part ++ x ∷ []) (xs ++ b ∷ []) → ends (part ++ x ∷ []) (xs ++ b ∷ []) ≡ false
+    by_case false is = sym is
+    by_case true is =
+        let text = xs ++ b ∷ [] in
+        let whole = part ++ x ∷ [] in
+        let front = take (length text - length whole) text in
+        let parts : text ≡ front ++ whole = (ends_is Decides-eqb text whole true is).0 refl in
+        let last : Some b ≡ Some x = sym (last_of_append None xs b) ∙ ap (last_or None) (parts ∙ sym (append_assoc front part (x ∷ []))) ∙ last_of_append None (front ++ part) x in
+        absurd (other (ap (λ o. unwrap_or o 0) last))
+
+-- so with such a byte more it holds the part where it held it before
+pub unmet : (part before front : List ℕ) (x b : ℕ) (was : Bool) → b ≢ x → was ≡ holds (part ++ x ∷ []) before → front ≡ before ++ b ∷ [] → was ≡ holds (part ++ x ∷ []) front
+unmet part before front x b was other was_is longer =
+    let some : 1 ≤ length (part ++ x ∷ []) = rw (length-append part (x ∷ [])) (omega arith) in
+    sym (or-false was) ∙ met (part ++ x ∷ []) before front b was false some was_is (sym (ap (ends (part ++ x ∷ [])) longer ∙ ends_otherwise part before x b other)) longer
+
+-- nor does it hold a byte that passes a test, if this one fails it
+pub unmet_byte : (test : ℕ → Bool) (before front : List ℕ) (b : ℕ) (was : Bool) → test b ≡ false → was ≡ list_any test before → front ≡ before ++ b ∷ [] → was ≡ list_any test front
+unmet_byte test before front b was fails was_is longer = sym (or-false was) ∙ met_byte test before front b was false was_is (sym fails) longer
+
+-- what a byte is not with which nothing ends that breaks a rule
+pub record IsOther (b : ℕ) : Type 0 where
+  pub printed : is_unprintable b ≡ false
+  pub plain : is_pattern b ≡ false
+  pub dot : b ≢ 46
+  pub slash : b ≢ 47
+  pub backslash : b ≢ 92
+  pub brace : b ≢ 123
+
+none_of : (b c d e f g : Bool) → not (b || c || d || e || f || g) ≡ true → (b ≡ false) × (c ≡ false) × (d ≡ false) × (e ≡ false) × (f ≡ false) × (g ≡ false)
+none_of false false false false false false is = (refl, refl, refl, refl, refl, refl)
+none_of true c d e f g is = absurd (cc)
+none_of false true d e f g is = absurd (cc)
+none_of false false true e f g is = absurd (cc)
+none_of false false false true f g is = absurd (cc)
+none_of false false false false true g is = absurd (cc)
+none_of false false false false false true is = absurd (cc)
+
+unequal_bytes : (b x : ℕ) → (b == x) ≡ false → b ≢ x
+unequal_bytes b x differs same = let equal : (b == x) ≡ true = eq-eqb b x same in absurd (cc)
+
+pub other_of_plain : (b : ℕ) → is_plain b ≡ true → IsOther b
+other_of_plain b is =
+    let none = none_of (is_unprintable b) (is_pattern b) (b == 46) (b == 47) (b == 92) (b == 123) is in
+    record {
+      printed = none.0;
+      plain = none.1;
+      dot = unequal_bytes b 46 none.2;
+      slash = unequal_bytes b 47 none.3;
+      backslash = unequal_bytes b 92 none.4;
+      brace = unequal_bytes b 123 none.5;
+    }

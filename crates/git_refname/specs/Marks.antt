@@ -1,5 +1,5 @@
 -- What a text contains of all that breaks a rule wherever it occurs.
-use Rattle.std.specs.Prelude.{ℕ, List, codes}
+use Rattle.std.specs.Prelude.{ℕ, ◌==◌, ◌||◌, Bool, not, List, codes}
 use Rattle.std.specs.List.{list_any}
 use Rattle.git_refname.specs.declared.marks.Marks.{Marks}
 use Rattle.git_refname.specs.Rule.{holds, is_unprintable, is_pattern}
@@ -16,3 +16,7 @@ marks_of text = record {
   at_brace = holds (codes "@{") text;
   backslash = holds (codes "\\") text;
 }
+
+-- a byte with which nothing ends that breaks a rule: none of patterns, none that is not printed, and no `.`, `/`, backslash or `{`
+abbrev pub is_plain : ℕ → Bool
+is_plain b = not (is_unprintable b || is_pattern b || (b == 46) || (b == 47) || (b == 92) || (b == 123))

@@ -1,5 +1,5 @@
 ghost use Rattle.std.specs.Prelude.{◌≡◌, ◌++◌, ◌∷◌, [], List, ℕ};
-ghost use Rattle.git_refname.specs.Marks.{marks_of};
+ghost use Rattle.git_refname.specs.Marks.{is_plain, marks_of};
 ghost use Rattle.git_refname.specs.Rule.{is_unprintable, is_pattern};
 
 // What the beginning of a name contains of all that breaks a rule wherever it occurs.
@@ -47,6 +47,9 @@ impl Marks {
     pub(crate) fn with(self, front: &[u8], byte: u8) -> Marks
         ensures { (before : List ℕ) → self ≡ marks_of before → front.now ≡ before ++ byte ∷ [] → result ≡ marks_of front.now }
     {
+        if is_plain(byte) {
+            return self;
+        }
         Marks {
             dot: self.dot | front.ends_with(b"/."),
             lock: self.lock | front.ends_with(b".lock/"),
@@ -59,6 +62,13 @@ impl Marks {
             backslash: self.backslash | front.ends_with(b"\\"),
         }
     }
+}
+
+// Whether nothing that breaks a rule ends with the byte.
+fn is_plain(byte: u8) -> bool
+    ensures { result ≡ is_plain byte }
+{
+    !(is_unprintable(byte) | is_pattern(byte) | matches!(byte, b'.' | b'/' | b'\\' | b'{'))
 }
 
 // A control byte, DEL, SP, `~`, `^` or `:`.

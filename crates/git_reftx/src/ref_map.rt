@@ -117,6 +117,13 @@ impl RefMap {
         let references = self.references.copy()?;
         Ok(RefMap { references })
     }
+
+    // What both have alike at the same place in memory is there once from now on.
+    pub(crate) fn share_with(&mut self, other: &RefMap) -> Result<(), AllocError>
+        ensures { self.new ≡ self.old }
+    {
+        self.references.share_with(&other.references)
+    }
 }
 
 // Whether one of the texts begins with these bytes.

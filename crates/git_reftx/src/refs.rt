@@ -89,6 +89,14 @@ impl Refs {
         Ok(Refs { map })
     }
 
+    /// Shares with other references what both have alike at the same place in memory, so that this is there
+    /// once. An `Err` leaves the references as they were. Its time is linear in these references.
+    pub fn share_with(&mut self, other: &Refs) -> Result<(), AllocError>
+        ensures { self.new ≡ self.old }
+    {
+        self.map.share_with(&other.map)
+    }
+
     /// Appends a reference: its name must come after all others, and none of them may be above it. An `Err`
     /// leaves the references as they were. It looks up the map once for each `/` of the name.
     pub fn push(&mut self, name: RefName, target: Name) -> Result<(), PushRefError>

@@ -78,6 +78,13 @@ impl Repository {
         })
     }
 
+    /// Shares its references with those of another repository, as `Refs::share_with` does.
+    pub fn share_with(&mut self, other: &Repository) -> Result<(), AllocError>
+        ensures { self.new ≡ self.old }
+    {
+        self.references.share_with(&other.references)
+    }
+
     /// From now on HEAD names this branch, whether it exists or not.
     pub fn set_head(&mut self, head: Branch)
         ensures { self.new ≡ record self.old { head = head } }

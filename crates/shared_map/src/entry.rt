@@ -1,4 +1,4 @@
-ghost use Rattle.std.specs.Prelude.{◌≡◌, IfOk};
+ghost use Rattle.std.specs.Prelude.{◌≡◌, true, IfOk};
 ghost use Rattle.shared_map.specs.Chunks.{is_before};
 
 use git_name::Name;
@@ -58,5 +58,15 @@ impl Entry {
         ensures { result ≡ is_before key.now self.now }
     {
         self.key().cmp(key).is_lt()
+    }
+
+    // Whether the other entry is the same.
+    pub(crate) fn is_same(&self, other: &Entry) -> bool
+        ensures { result ≡ true → self.now ≡ other.now }
+    {
+        if self.value != other.value {
+            return false;
+        }
+        self.key() == other.key()
     }
 }

@@ -10,6 +10,7 @@ mod entry;
 mod iter;
 mod map;
 mod search;
+mod sharing;
 mod spot;
 
 pub use crate::iter::Iter;

@@ -12,6 +12,7 @@ use crate::building::rebuilt;
 use crate::chunks::{Chunks, entries_at, slice_of};
 use crate::iter::Iter;
 use crate::search::{chunk_for, count_before};
+use crate::sharing::shared_with;
 use crate::spot::spot_of;
 use git_name::Name;
 use std::alloc::{AllocError, Global};
@@ -121,6 +122,25 @@ impl SharedMap {
             count: self.len(),
             chunks: Some(chunks),
         })
+    }
+
+    /// Shares with another map what both have alike at the same place in memory, so that this is there
+    /// once. An `Err` leaves the map as it was. Its time is linear in this map.
+    pub fn share_with(&mut self, other: &SharedMap) -> Result<(), AllocError>
+        ensures { self.new ≡ self.old }
+    {
+        let alloc = self.alloc;
+        let Some(chunks) = &self.chunks else {
+            return Ok(());
+        };
+        let new = shared_with(alloc, chunks.as_slice(), slice_of(&other.chunks))?;
+        let new = Chunks::new(alloc, new)?;
+        *self = SharedMap {
+            alloc,
+            count: self.len(),
+            chunks: Some(new),
+        };
+        Ok(())
     }
 
     // From now on a text has this name, or is not there.

@@ -1,8 +1,20 @@
-ghost use Rattle.std.specs.Prelude.{◌≡◌, ◌≤◌, ◌+◌, ◌<◌, [], length, take, drop, slice_index_or};
+ghost use Rattle.std.specs.Prelude.{◌≡◌, ◌≤◌, ◌+◌, ◌<◌, true, [], length, take, drop, slice_index_or};
 ghost use Rattle.shared_map.specs.Chunks.{AreBefore, AreBehind, AreFull, AreNotBefore, IsReached, Rises, joined};
 
 use crate::chunk::Chunk;
 use crate::entry::Entry;
+
+// Whether all keys come before this one, where there are any. They are in order. Names often come in
+// order too, so this is asked first.
+fn are_before(entries: &[Entry], key: &[u8]) -> bool
+    requires { Rises entries.now }
+    ensures { result ≡ true → AreBefore key.now entries.now }
+{
+    if entries.is_empty() {
+        return false;
+    }
+    entries[entries.len() - 1].is_before(key)
+}
 
 // How many entries have keys before this one, by halves. They are in order.
 pub(crate) fn count_before(entries: &[Entry], key: &[u8]) -> usize
@@ -11,6 +23,9 @@ pub(crate) fn count_before(entries: &[Entry], key: &[u8]) -> usize
     ensures before { AreBefore key.now (take result entries.now) }
     ensures behind { AreNotBefore key.now (drop result entries.now) }
 {
+    if are_before(entries, key) {
+        return entries.len();
+    }
     let mut low = 0;
     let mut high = entries.len();
     'halves: while low < high {
@@ -44,6 +59,18 @@ pub(crate) fn chunk_for(chunks: &[Chunk], key: &[u8]) -> usize
     at - 1
 }
 
+// Whether all chunks end before a key, where there are any.
+fn are_chunks_before(chunks: &[Chunk], key: &[u8]) -> bool
+    requires order { Rises (joined chunks.now) }
+    requires full { AreFull chunks.now }
+    ensures { result ≡ true → AreBefore key.now (joined chunks.now) }
+{
+    if chunks.is_empty() {
+        return false;
+    }
+    chunks[chunks.len() - 1].is_before(key)
+}
+
 // How many chunks end before a key, by halves.
 fn count_chunks_before(chunks: &[Chunk], key: &[u8]) -> usize
     requires order { Rises (joined chunks.now) }
@@ -52,6 +79,9 @@ fn count_chunks_before(chunks: &[Chunk], key: &[u8]) -> usize
     ensures before { AreBefore key.now (joined (take result chunks.now)) }
     ensures reached { IsReached key.now (drop result chunks.now) }
 {
+    if are_chunks_before(chunks, key) {
+        return chunks.len();
+    }
     let mut low = 0;
     let mut high = chunks.len();
     'halves: while low < high {

@@ -1,5 +1,5 @@
 -- What a turn does, from what its parts did.
-use Rattle.std.proofs.Common.{Bool, true, false, ◌≡◌, ℕ, ◌+◌, ◌<◌, ◌≤◌, List, [], ◌∷◌, ◌++◌, length, Option, Result, Ok, Err, refl, sym, ap, ◌∙◌, subst, arith}
+use Rattle.std.proofs.Common.{Bool, true, false, ◌≡◌, ℕ, ◌+◌, ◌<◌, List, [], ◌∷◌, ◌++◌, length, Option, Result, Ok, Err, refl, sym, ap, ◌∙◌, subst, arith}
 use Rattle.std.specs.Prelude.{OnOk}
 use Rattle.std.specs.Io.KnownBytes.{Appends, Consumes}
 use Rattle.std.proofs.KnownBytes.{Appends-nil, Appends-trans}
@@ -117,20 +117,6 @@ module _ {H : Type 0} where
   led answered lost before after acts false found chain = chain
   led answered lost before after acts true found chain = let bad : true ≡ false = found in absurd (cc bad)
 
-  chain_after : (answered : Answered H) (before after : H) (acts more : List Act) → asked acts ≡ [] → Chain answered before more after → Chain answered before (acts ++ more) after
-  chain_after answered before after [] more none chain = chain
-  chain_after answered before after (Reads bytes ∷ acts) more none chain = chain_after answered before after acts more none chain
-  chain_after answered before after (Writes bytes ∷ acts) more none chain = chain_after answered before after acts more none chain
-  chain_after answered before after (Answers frame reply ∷ acts) more none chain = absurd (some frame (asked acts) none)
-    where
-      some : (f : Frame) (fs : List Frame) → f ∷ fs ≡ [] → ⊥
-      some f fs is = let none : length (f ∷ fs) ≡ 0 = ap (λ (l : List Frame). length l) is in absurd (omega arith)
-  chain_after answered before after (Refuses ∷ acts) more none chain = chain_after answered before after acts more none chain
-
-  leads_after : (answered : Answered H) (lost : Loses H) (before after : H) (acts more : List Act) (loses : Bool) → asked acts ≡ [] → LeadsTo answered lost before after more loses → LeadsTo answered lost before after (acts ++ more) loses
-  leads_after answered lost before after acts more false none leads = chain_after answered before after acts more none leads
-  leads_after answered lost before after acts more true none leads = record { mid = leads.mid; chain = chain_after answered before leads.mid acts more none leads.chain; frame = leads.frame; right = leads.right; is = leads.is }
-
   -- a turn without a frame
   pub is_quiet : (answered : Answered H) (lost : Loses H) (before after : H) (old new : Peer) (result : Result Turn TurnFault) → IsExchange old new result → before ≡ after → IsTurn answered lost before after old new result
   is_quiet answered lost before after old new result exchange same = record {
@@ -142,20 +128,6 @@ module _ {H : Type 0} where
     late = (old.waiting, ap (λ b. b ++ old.waiting) (sym exchange.unsent));
     gone = nothing_gone old.out new.out (sent exchange.acts) exchange.still exchange.unsent;
     stays = exchange.stays;
-  }
-
-  -- bytes came, and then a turn was taken
-  pub came_then : (answered : Answered H) (lost : Loses H) (before still after : H) (old mid new : Peer) (turn : Turn) (result : Result Turn TurnFault) → IsExchange old mid (Ok turn) → still ≡ before → mid.waiting ≡ old.waiting
-      → IsTurn answered lost still after mid new result → IsTurn answered lost before after old new result
-  came_then answered lost before still after old mid new turn result one same waiting two = record {
-    acts = one.acts ++ two.acts;
-    left = two.left;
-    does = acts_append old mid two.left one.acts two.acts (subst (λ (p : Peer). Acts old one.acts p) one.stays one.does) two.does;
-    leads = leads_after answered lost before after one.acts two.acts (is_loss result) one.none (subst (λ (h : H). LeadsTo answered lost h after two.acts (is_loss result)) same two.leads);
-    few = subst (λ (l : List Frame). length l ≤ 1) (sym (asked_behind one.acts two.acts one.none)) two.few;
-    late = (two.late.0, sym waiting ∙ (two.late.1 ∙ ap (λ b. b ++ two.late.0) (sym (sent_behind one.acts two.acts one.unsent))));
-    gone = subst (Appends old.out new.out) (sym (sent_behind one.acts two.acts one.unsent)) (subst (λ (o : Option (List ℕ)). Appends o new.out (sent two.acts)) one.still two.gone);
-    stays = two.stays;
   }
 
   -- a turn with one

@@ -1,9 +1,8 @@
-ghost use Rattle.std.specs.Prelude.{◌≡◌, ◌≢◌, ◌≤◌, ◌<◌, [], ℕ, List, Option, false, true, IfOk, Ok, OnOk, length};
+ghost use Rattle.std.specs.Prelude.{◌≡◌, ◌≤◌, ◌<◌, [], ℕ, List, Option, false, true, OnOk, length};
 ghost use Rattle.fork_frame.specs.declared.ended.Ended.{Ended as HowEnded};
 ghost use Rattle.fork_frame.specs.Reply.{last_line};
 ghost use Rattle.fork_connection.specs.Inbox.{IsPart};
 ghost use Rattle.fork_connection.specs.Turns.{IsExchange, IsSent, IsTurn, Replies, is_loss, peer_of};
-ghost use Rattle.fork_connection.specs.declared.connection.Turn.{Turn as How};
 
 use crate::answering::Answering;
 use crate::inbox::{Arrival, Came, Inbox};
@@ -18,8 +17,6 @@ use std::marker::Model;
 pub(crate) enum Turn {
     /// A frame was answered, and there may be more to do.
     Answered,
-    /// Bytes came, and nothing else was done.
-    Came,
     /// There may be more to do.
     Busy,
     /// Nothing is to be done before the peer sends or takes something.
@@ -115,7 +112,6 @@ impl Connection {
     ) -> Result<Turn, TurnFault>
         ensures pending { self.new.pending ≡ self.old.pending }
         ensures replied { Replies H.answered H.lost host.old host.new frame self.new.waiting result }
-        ensures taken { IfOk result (λ turn. turn ≢ How.Came) }
     {
         let Ok(reply) = host.answer(alloc, &frame) else {
             return Err(TurnFault::Lost);
@@ -131,7 +127,6 @@ impl Connection {
         ensures pending { self.new.pending ≡ self.old.pending }
         ensures told { OnOk result (self.new.waiting ≡ last_line HowEnded.BadFrame) }
         ensures found { is_loss result ≡ false }
-        ensures taken { IfOk result (λ turn. turn ≢ How.Came) }
     {
         self.is_ending = true;
         let Ok(()) = self.outbox.put_bad_frame(alloc) else {
@@ -153,10 +148,9 @@ impl Connection {
         ensures buffer { length buffer.new ≡ length buffer.old }
         ensures exchange { (out : Option (List ℕ)) → IsExchange (peer_of (R.remaining reader.old) out self.old)
             (peer_of (R.remaining reader.new) out self.new) result }
-        ensures unowed { IfOk result (λ turn. turn ≡ How.Came → self.new.waiting ≡ []) }
     {
         match self.inbox.fill(reader, buffer) {
-            Ok(Came::Some) => Ok(Turn::Came),
+            Ok(Came::Some) => Ok(Turn::Busy),
             Ok(Came::Nothing) => Ok(Turn::Waits),
             Ok(Came::End) => match self.inbox.ended() {
                 Ended::Clean => Ok(Turn::Over),
@@ -166,7 +160,7 @@ impl Connection {
         }
     }
 
-    // Answers one frame, or reads once if no whole frame is pending, where nothing waits to go out.
+    // Answers at most one frame, or reads once, where nothing waits to go out.
     fn take<H: Answering, R: Read>(
         &mut self,
         alloc: Global,
@@ -179,8 +173,6 @@ impl Connection {
         ensures buffer { length buffer.new ≡ length buffer.old }
         ensures turn { (out : Option (List ℕ)) → IsTurn H.answered H.lost host.old host.new (peer_of (R.remaining reader.old) out self.old)
             (peer_of (R.remaining reader.new) out self.new) result }
-        ensures came { IfOk result (λ turn. turn ≡ How.Came → (self.new.waiting ≡ []) × (host.new ≡ host.old)
-            × ((out : Option (List ℕ)) → IsExchange (peer_of (R.remaining reader.old) out self.old) (peer_of (R.remaining reader.new) out self.new) (Ok turn))) }
     {
         if self.is_ending {
             return Ok(Turn::Over);
@@ -190,26 +182,6 @@ impl Connection {
             Ok(Arrival::Bad) => self.refuse(alloc),
             Ok(Arrival::Part) => self.read(alloc, reader, buffer),
             Err(_) => Err(TurnFault::Broken),
-        }
-    }
-
-    // The same, and once more if bytes came. So a frame is answered in the turn in which its end comes.
-    fn take_more<H: Answering, R: Read>(
-        &mut self,
-        alloc: Global,
-        host: &mut H,
-        reader: &mut R,
-        buffer: &mut [u8],
-    ) -> Result<Turn, TurnFault>
-        requires waiting { self.old.waiting ≡ [] }
-        requires buffer { 0 < length buffer.old }
-        ensures buffer { length buffer.new ≡ length buffer.old }
-        ensures turn { (out : Option (List ℕ)) → IsTurn H.answered H.lost host.old host.new (peer_of (R.remaining reader.old) out self.old)
-            (peer_of (R.remaining reader.new) out self.new) result }
-    {
-        match self.take(alloc, host, reader, buffer) {
-            Ok(Turn::Came) => self.take(alloc, host, reader, buffer),
-            taken => taken,
         }
     }
 
@@ -231,7 +203,7 @@ impl Connection {
             (peer_of (R.remaining reader.new) (W.contents writer.new) self.new) result }
     {
         if !self.is_owed() {
-            return self.take_more(alloc, host, reader, buffer);
+            return self.take(alloc, host, reader, buffer);
         }
         let sent = match self.send(alloc, writer) {
             Ok(sent) => sent,
@@ -243,6 +215,6 @@ impl Connection {
         if self.is_owed() {
             return Ok(sent);
         }
-        self.take_more(alloc, host, reader, buffer)
+        self.take(alloc, host, reader, buffer)
     }
 }

@@ -46,7 +46,7 @@ fn serve<H: Answering, R: Read, W: Write>(
             party.frames = party.frames.saturating_add(1);
             Ok(())
         }
-        Ok(Turn::Busy) | Ok(Turn::Came) => Ok(()),
+        Ok(Turn::Busy) => Ok(()),
         Ok(Turn::Waits) => {
             party.is_busy = false;
             Ok(())

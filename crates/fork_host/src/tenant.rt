@@ -18,10 +18,11 @@ ghost use Rattle.fork_host.specs.Staged.{IsStaged};
 mod figures;
 mod heads;
 mod keeping;
-mod objects;
 mod offers;
+mod prune;
 mod pushes;
 mod queries;
+mod quota;
 mod references;
 mod repositories;
 

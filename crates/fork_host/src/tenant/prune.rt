@@ -1,16 +1,15 @@
-// Rows about all objects that a tenant sees.
+// The row of `prune`.
 ghost use Rattle.std.specs.Prelude.{◌≡◌, ◌++◌, [], IfOk, IsTrue};
-ghost use Rattle.fork_model.specs.Answer.{prune_answer, quota_answer, targets_of};
+ghost use Rattle.fork_model.specs.Answer.{prune_answer, targets_of};
 ghost use Rattle.fork_host.specs.Bounds.{IsBounded};
 ghost use Rattle.fork_host.specs.Handle.{Ready, Uses, shown_by};
 ghost use Rattle.fork_host.specs.Made.{targets_kept};
-ghost use Rattle.fork_host.specs.Rows.{Gives, Yields};
+ghost use Rattle.fork_host.specs.Rows.{Yields};
 ghost use Rattle.fork_host.specs.Safe.{IsSafe};
 ghost use Rattle.fork_host.specs.Shown.{shown};
 
 use crate::own::Own;
 use crate::pruning::keep_reached;
-use crate::replies::told_use;
 use crate::tenant::Tenant;
 use fork_request::{HostFault, Reply};
 use git_name::Name;
@@ -18,15 +17,6 @@ use loose_store::LooseFiles;
 use std::alloc::{AllocError, Global};
 
 impl Tenant {
-    #[tactic(auto, unfolding(fork_model::specs::Answer::quota_answer))]
-    // What the objects that are seen use, and the limit.
-    pub(crate) fn quota<S: LooseFiles>(&self, alloc: Global, own: &Own<'_, S>) -> Reply
-        requires ready { Ready own.now self.now.limit }
-        ensures { Gives (quota_answer (shown_by self.now own.now)) (shown_by self.now own.now) result (shown_by self.now own.now) }
-    {
-        told_use(alloc, own.used(), self.limit)
-    }
-
     #[tactic(auto, unfolding(fork_model::specs::Answer::prune_answer))]
     // Objects go that no reference of a repository or of an offer reaches.
     pub(crate) fn prune<S: LooseFiles>(&self, alloc: Global, own: &mut Own<'_, S>) -> Reply

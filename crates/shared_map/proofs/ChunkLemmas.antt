@@ -1,6 +1,7 @@
 -- Chunks, one after another.
-use Rattle.std.proofs.Common.{◌≡◌, ℕ, suc, zero, ◌<◌, ◌≤◌, ◌+◌, true, List, [], ◌∷◌, ◌++◌, refl, sym, ap, subst, ◌∙◌, length, get_or, take, drop, arith, append_assoc, Less}
+use Rattle.std.proofs.Common.{◌≡◌, ℕ, suc, zero, ◌<◌, ◌≤◌, ◌+◌, Bool, true, false, List, [], ◌∷◌, ◌++◌, refl, sym, ap, subst, ◌∙◌, length, get_or, take, drop, slice_set, arith, append-nil, append_assoc, Less}
 use Rattle.git_name.specs.Name.{name_cmp}
+use Rattle.shared_map.specs.Building.{appended}
 use Rattle.shared_map.specs.Chunks.{Entry, Entries, Rises, is_before, AreBefore, AreBehind, Reaches, AreFull, IsReached, joined}
 use Rattle.shared_map.proofs.AllLemmas.{all_first, all_second, all_both, all_more}
 use Rattle.shared_map.proofs.RiseLemmas.{before_earlier, rises_first, rises_second, across}
@@ -57,3 +58,17 @@ before_fewer key (c ∷ cs) (suc few) zero less before = absurd (omega arith)
 before_fewer key (c ∷ cs) (suc few) (suc many) less before =
     all_both (λ e. is_before key e ≡ true) c (joined (take few cs)) (all_first (λ e. is_before key e ≡ true) c (joined (take many cs)) before)
     (before_fewer key cs few many (omega arith) (all_second (λ e. is_before key e ≡ true) c (joined (take many cs)) before))
+
+appended_behind : (done : Bool) (c es : Entries) (e : Entry) → c ++ appended done es e ≡ appended done (c ++ es) e
+appended_behind true c es e = sym (append_assoc c es (e ∷ []))
+appended_behind false c es e = refl
+
+-- the last chunk with one entry more
+pub last_appended : (done : Bool) (cs : List Entries) (at : ℕ) (last new : Entries) (e : Entry) → length cs ≡ suc at → last ≡ get_or cs at last → new ≡ appended done last e
+    → joined (slice_set cs at new) ≡ appended done (joined cs) e
+last_appended done [] at last new e is found now = absurd (omega arith)
+last_appended done (c ∷ []) zero last new e is found now = append-nil new ∙ now ∙ ap (λ es. appended done es e) (found ∙ sym (append-nil c))
+last_appended done (c ∷ d ∷ cs) zero last new e is found now = absurd (omega arith)
+last_appended done (c ∷ []) (suc at) last new e is found now = absurd (omega arith)
+last_appended done (c ∷ d ∷ cs) (suc at) last new e is found now =
+    ap (λ es. c ++ es) (last_appended done (d ∷ cs) at last new e (omega arith) found now) ∙ appended_behind done c (joined (d ∷ cs)) e

@@ -1,5 +1,5 @@
 -- The entries of a map, around a key.
-use Rattle.std.proofs.Common.{◌≡◌, ℕ, suc, ◌+◌, ◌-◌, ◌<◌, ◌≤◌, min, true, false, not, cond, List, [], ◌∷◌, ◌++◌, Option, None, Some, refl, sym, ap, subst, ◌∙◌, length, get_or, take, drop, arith, append_assoc, take-append-drop, take-add, drop-drop, drop_of_length-le, length-append, is_lt, map as mapped, ⊎_elim, take_all, length-drop}
+use Rattle.std.proofs.Common.{◌≡◌, ℕ, suc, ◌+◌, ◌-◌, ◌<◌, ◌≤◌, min, true, false, not, cond, List, [], ◌∷◌, ◌++◌, Option, None, Some, refl, sym, ap, subst, ◌∙◌, length, get_or, take, drop, arith, append-nil, append_assoc, take-append-drop, take-add, drop-drop, drop_of_length-le, length-append, is_lt, map as mapped, ⊎_elim, take_all, length-drop}
 use Rattle.std.proofs.lemmas.Bool.{cases_lt}
 use Rattle.std.specs.List.{find}
 use Rattle.std.specs.FinMap as finite
@@ -163,3 +163,14 @@ rest_of past cs = take_all (length cs - past) (drop past cs) (let size = length-
 -- the number of entries is that of the map
 pub count_is : (es : Entries) (count : ℕ) (m : finite.FinMap name_cmp (List ℕ)) → Rises es → count ≡ length es → finite.from_entries es ≡ m → count ≡ finite.len m
 count_is es count m rises is shown = is ∙ ap (λ (l : Entries). length l) (sym (entries_risen es rises)) ∙ sym (finite.len-entries (finite.from_entries es)) ∙ ap finite.len shown
+
+-- a key behind all others
+pub chunks_appended : (key value : List ℕ) (cs new : List Entries) (len after : ℕ) → AreChunks cs len → AreBefore key (joined cs) → joined new ≡ joined cs ++ (key, value) ∷ [] → AreFull new → after ≡ len + 1 → AreChunks new after
+chunks_appended key value cs new len after are before now full more =
+    chunks_changed key cs new len len after (joined cs) [] None (Some value) are (sym (append-nil (joined cs))) now before tt full (omega arith) more
+
+pub appended_is : (key value : List ℕ) (cs new : List Entries) → AreBefore key (joined cs) → joined new ≡ joined cs ++ (key, value) ∷ []
+    → finite.from_entries {R = name_cmp} (joined new) ≡ finite.insert (finite.from_entries (joined cs)) key value
+appended_is key value cs new before now =
+    ap (λ es. finite.from_entries {R = name_cmp} es) now ∙ set_around (joined cs) key None (Some value) [] before tt
+    ∙ ap (λ es. finite.insert (finite.from_entries {R = name_cmp} es) key value) (append-nil (joined cs))

@@ -10,7 +10,7 @@ use git_name::Name;
 use std::alloc::{AllocError, Global};
 
 // The most entries of a chunk.
-const MOST: usize = 32;
+pub(crate) const MOST: usize = 32;
 
 // The most entries of two chunks that are joined.
 const FEW: usize = 24;

@@ -1,7 +1,10 @@
 ghost use Rattle.std.specs.Prelude.{◌≡◌, ◌++◌, ◌<◌, true, false, IfOk, OnOk, length};
+ghost use Rattle.shared_map.specs.Building.{appended};
 ghost use Rattle.shared_map.specs.Chunks.{AreBefore, Reaches, Rises, joined};
 
+use crate::building::MOST;
 use crate::entry::Entry;
+use git_name::Name;
 use std::alloc::{AllocError, Global};
 use std::marker::Model;
 use std::rc::Rc;
@@ -37,6 +40,17 @@ impl Chunk {
         self.entries.as_ref().as_slice()
     }
 
+    // Appends an entry in place, and returns whether it did: not if copies share the chunk, if it has as
+    // many as it may have, or if memory runs out.
+    pub(crate) fn push(&mut self, alloc: Global, key: &[u8], value: Name) -> bool
+        ensures { self.new ≡ appended result self.old (key.now, value) }
+    {
+        let Some(entries) = Rc::get_mut(&mut self.entries) else {
+            return false;
+        };
+        push_entry(alloc, entries, key, value)
+    }
+
     // The same chunk in memory.
     pub(crate) fn share(&self) -> Result<Chunk, AllocError>
         ensures { IfOk result (λ chunk. chunk ≡ self.now) }
@@ -55,6 +69,22 @@ impl Chunk {
         let entries = self.entries();
         entries[entries.len() - 1].is_before(key)
     }
+}
+
+// Appends an entry, if there is room for it.
+fn push_entry(alloc: Global, entries: &mut Vec<Entry>, key: &[u8], value: Name) -> bool
+    ensures { entries.new.items ≡ appended result entries.old.items (key.now, value) }
+{
+    if entries.len() >= MOST {
+        return false;
+    }
+    let Ok(entry) = Entry::new(alloc, key, value) else {
+        return false;
+    };
+    let Ok(()) = entries.push(entry) else {
+        return false;
+    };
+    true
 }
 
 // Appends entries that share their bytes with these.

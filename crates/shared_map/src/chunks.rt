@@ -1,8 +1,11 @@
 ghost use Rattle.std.specs.Prelude.{◌≡◌, [], IfOk, slice_index_or};
 ghost use Rattle.std.specs.Option.{unwrap_or};
+ghost use Rattle.shared_map.specs.Building.{appended};
+ghost use Rattle.shared_map.specs.Chunks.{AreFull, joined};
 
 use crate::chunk::Chunk;
 use crate::entry::Entry;
+use git_name::Name;
 use std::alloc::{AllocError, Global};
 use std::marker::Model;
 use std::rc::Rc;
@@ -36,6 +39,17 @@ impl Chunks {
         self.list.as_ref().as_slice()
     }
 
+    // Appends an entry to the last chunk in place, and returns whether it did.
+    pub(crate) fn push(&mut self, alloc: Global, key: &[u8], value: Name) -> bool
+        ensures joined { joined self.new ≡ appended result (joined self.old) (key.now, value) }
+        ensures full { AreFull self.old → AreFull self.new }
+    {
+        let Some(list) = Rc::get_mut(&mut self.list) else {
+            return false;
+        };
+        push_last(alloc, list.as_mut_slice(), key, value)
+    }
+
     // The same list in memory.
     pub(crate) fn share(&self) -> Result<Chunks, AllocError>
         ensures { IfOk result (λ chunks. chunks ≡ self.now) }
@@ -43,6 +57,28 @@ impl Chunks {
         let list = self.list.clone()?;
         Ok(Chunks { list })
     }
+}
+
+// Appends an entry to the last of the chunks in place, and returns whether it did.
+fn push_last(alloc: Global, chunks: &mut [Chunk], key: &[u8], value: Name) -> bool
+    ensures joined { joined chunks.new ≡ appended result (joined chunks.old) (key.now, value) }
+    ensures full { AreFull chunks.old → AreFull chunks.new }
+{
+    let Some(last) = chunks.last_mut() else {
+        return false;
+    };
+    last.push(alloc, key, value)
+}
+
+// Appends an entry to the last chunk of a list in place, if there is one, and returns whether it did.
+pub(crate) fn push_to(chunks: &mut Option<Chunks>, alloc: Global, key: &[u8], value: Name) -> bool
+    ensures joined { joined (unwrap_or chunks.new []) ≡ appended result (joined (unwrap_or chunks.old [])) (key.now, value) }
+    ensures full { AreFull (unwrap_or chunks.old []) → AreFull (unwrap_or chunks.new []) }
+{
+    let Some(list) = chunks.as_mut() else {
+        return false;
+    };
+    list.push(alloc, key, value)
 }
 
 // The chunks of a list, or none.

@@ -1,4 +1,4 @@
-ghost use Rattle.std.specs.Prelude.{◌≡◌, ◌≤◌, ◌+◌, [], IfOk, OnOk, OnErr, length, not};
+ghost use Rattle.std.specs.Prelude.{◌≡◌, ◌≤◌, ◌+◌, [], true, false, IfOk, OnOk, OnErr, length, not};
 ghost use Rattle.std.specs.FinMap as map;
 ghost use Rattle.std.specs.List.{find};
 ghost use Rattle.std.specs.List.Sorted.{IsStrictlySortedBy};
@@ -9,9 +9,9 @@ ghost use Rattle.shared_map.specs.Building.{set_in};
 ghost use Rattle.shared_map.specs.Chunks.{kept};
 
 use crate::building::rebuilt;
-use crate::chunks::{Chunks, entries_at, slice_of};
+use crate::chunks::{Chunks, entries_at, push_to, slice_of};
 use crate::iter::Iter;
-use crate::search::{chunk_for, count_before};
+use crate::search::{are_chunks_before, chunk_for, count_before};
 use crate::sharing::shared_with;
 use crate::spot::spot_of;
 use git_name::Name;
@@ -98,6 +98,9 @@ impl SharedMap {
         ensures ok { OnOk result (self.new ≡ map.insert self.old key.now value) }
         ensures err { OnErr result (self.new ≡ self.old) }
     {
+        if self.append(key, value) {
+            return Ok(());
+        }
         self.change(key, &Some(value))
     }
 
@@ -141,6 +144,25 @@ impl SharedMap {
             chunks: Some(new),
         };
         Ok(())
+    }
+
+    // Gives a text a name in place, and returns whether it did: only if it comes after all others, and
+    // nothing has to be made anew.
+    fn append(&mut self, key: &[u8], value: Name) -> bool
+        ensures done { result ≡ true → self.new ≡ map.insert self.old key.now value }
+        ensures kept { result ≡ false → self.new ≡ self.old }
+    {
+        if !are_chunks_before(slice_of(&self.chunks), key) {
+            return false;
+        }
+        let Some(count) = self.count.checked_add(1) else {
+            return false;
+        };
+        if !push_to(&mut self.chunks, self.alloc, key, value) {
+            return false;
+        }
+        self.count = count;
+        true
     }
 
     // From now on a text has this name, or is not there.

@@ -60,7 +60,7 @@ pub(crate) fn chunk_for(chunks: &[Chunk], key: &[u8]) -> usize
 }
 
 // Whether all chunks end before a key, where there are any.
-fn are_chunks_before(chunks: &[Chunk], key: &[u8]) -> bool
+pub(crate) fn are_chunks_before(chunks: &[Chunk], key: &[u8]) -> bool
     requires order { Rises (joined chunks.now) }
     requires full { AreFull chunks.now }
     ensures { result ≡ true → AreBefore key.now (joined chunks.now) }

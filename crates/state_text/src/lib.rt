@@ -13,6 +13,7 @@ mod order;
 mod parts;
 mod place;
 mod reading;
+mod sharing;
 mod states;
 mod taking;
 mod tenant_state;

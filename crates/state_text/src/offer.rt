@@ -74,6 +74,13 @@ impl Offer {
         (self.receiver, self.name, self.repository)
     }
 
+    // What its repository has alike with another one is in memory once from now on.
+    pub(crate) fn share_with(&mut self, other: &Repository)
+        ensures { self.new ≡ self.old }
+    {
+        let _shared = self.repository.share_with(other);
+    }
+
     // Whether the offer comes before another one of its giver.
     pub(crate) fn is_before(&self, other: &Offer) -> bool
         ensures { IsTrue result ↔ name_cmp (words_of_offer self.now) (words_of_offer other.now) ≡ Less }

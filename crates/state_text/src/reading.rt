@@ -5,6 +5,7 @@ ghost use Rattle.state_text.specs.Text.{IsStateText};
 
 use crate::fault::StateFault;
 use crate::line_fault::LineFault;
+use crate::sharing::share_before;
 use crate::states::States;
 use crate::taking::take_line;
 use crate::version::Version;
@@ -42,6 +43,7 @@ fn read_lines(alloc: Global, text: &[u8]) -> Result<States, StateFault>
     let mut lines = 1;
     'lines: while let Some((line, behind)) = split_once(rest, b'\n') {
         lines += 1;
+        share_before(&mut states, line);
         if is_end(line, awaits) {
             if behind.len() > 0 {
                 return Err(StateFault::Line(lines + 1));

@@ -75,6 +75,14 @@ impl States {
         Ok(())
     }
 
+    // What the last item has alike with one before it is in memory once from now on, if memory does not
+    // run out.
+    pub(crate) fn share_last(&mut self)
+        ensures { self.new ≡ self.old }
+    {
+        share_last_of(self.tenants.as_mut_slice());
+    }
+
     // Removes the last tenant's state and returns it.
     pub(crate) fn pop(&mut self) -> Option<TenantState>
         ensures some { IfSome result (λ last. self.old ≡ self.new ++ last ∷ []) }
@@ -106,4 +114,14 @@ fn tenant_follows(tenants: &[TenantState], name: &TenantName) -> bool
         return false;
     };
     true
+}
+
+// Shares the last item of the last tenant.
+fn share_last_of(tenants: &mut [TenantState])
+    ensures { tenants.new ≡ tenants.old }
+{
+    let Some(last) = tenants.last_mut() else {
+        return;
+    };
+    last.share_last();
 }

@@ -12,6 +12,7 @@ use crate::fault::{AddError, OfferError};
 use crate::offer::Offer;
 use crate::order::{name_follows, offer_follows, repository_follows};
 use crate::place::Place;
+use crate::sharing::{share_offer, share_repository};
 use fork_model::{MAX_OFFERS, MAX_REPOSITORIES};
 use fork_request::{MAX_LIMIT, RepositoryName, TenantName};
 use git_name::Name;
@@ -188,6 +189,16 @@ impl TenantState {
             return Err(OfferError::Memory);
         };
         Ok(())
+    }
+
+    // What the last item has alike with a repository before it is in memory once from now on.
+    pub(crate) fn share_last(&mut self)
+        ensures { self.new ≡ self.old }
+    {
+        share_offer(self.offers.as_mut_slice(), self.repositories.as_slice());
+        if self.seen.is_empty() {
+            share_repository(self.repositories.as_mut_slice());
+        }
     }
 
     // Takes out the last item: an offer, or a repository after which nothing follows.

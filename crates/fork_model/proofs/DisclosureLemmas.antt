@@ -21,7 +21,7 @@ use Rattle.fork_model.specs.Runs.{Asks, HostAsks, Answered, Unknown, Faulted}
 use Rattle.fork_model.specs.View.{View}
 use Rattle.fork_model.specs.World.{Agree, Event, Explains, HostSays, IsUnfaulted, Meeting, Steps, World, deals_with, met, told}
 use Rattle.fork_model.proofs.EntryLemmas.{is_equal, pair_exact, pair_total}
-use Rattle.fork_model.proofs.Isolation.{other_step}
+use Rattle.fork_model.proofs.IsolationLemmas.{other_step}
 use Rattle.fork_model.proofs.Meetings.{runs_agree_met}
 use Rattle.fork_model.proofs.OfferLemmas.{apart_pairs, tied_pairs}
 use Rattle.fork_model.proofs.OfferedLemmas.{get_offered, met_still}

@@ -8,7 +8,7 @@ pub mod FetchedLemmas
 pub mod HeadExamples
 pub mod HostLemmas
 pub mod Hosts
-pub mod Isolation
+pub mod IsolationLemmas
 pub mod KeptLemmas
 pub mod LackingLemmas
 pub mod MadeLemmas

@@ -11,7 +11,7 @@ use Rattle.fork_model.specs.Answer.{answer}
 use Rattle.fork_model.specs.Context.{Context, met_by}
 use Rattle.fork_model.specs.View.{View}
 use Rattle.fork_model.specs.World.{Agree, Event, Explains, HostSays, IsUnfaulted, LeavesOffers, World, alone, meeting, met, own, told}
-use Rattle.fork_model.proofs.Isolation.{StaysFor, run_met, runs_met_agree, steady}
+use Rattle.fork_model.proofs.IsolationLemmas.{StaysFor, run_met, runs_met_agree, steady}
 use Rattle.fork_model.proofs.OfferedLemmas.{met_still}
 
 -- beside each request the same offers are met, where none is made or withdrawn

@@ -12,7 +12,7 @@ use Rattle.fork_model.specs.Context.{met_by}
 use Rattle.fork_model.specs.Disclosure.{Asked, change_in, happenings}
 use Rattle.fork_model.specs.Runs.{Asks, HostAsks}
 use Rattle.fork_model.specs.World.{Event, Explains, HostSays, Steps, World, met}
-use Rattle.fork_model.proofs.Isolation.{one_last, one_met, one_next}
+use Rattle.fork_model.proofs.IsolationLemmas.{one_last, one_met, one_next}
 use Rattle.fork_model.proofs.StepLemmas.{answer_tells}
 
 -- the world behind a step

@@ -21,7 +21,7 @@ use Rattle.fork_model.specs.Provenance.{IsAmong, IsFrom, Seen, Pushed, Uploaded,
 use Rattle.fork_model.specs.Runs.{Asks, HostAsks, Answered, Unknown, Faulted}
 use Rattle.fork_model.specs.View.{View}
 use Rattle.fork_model.specs.World.{World, Event, Exchange, Steps, Explains, HostSays, alone, Meeting, exchanges, exchanges_alone, met, own, told}
-use Rattle.fork_model.proofs.Isolation.{tied, other_step, own_request}
+use Rattle.fork_model.proofs.IsolationLemmas.{tied, other_step, own_request}
 use Rattle.fork_model.proofs.KeptLemmas.{here, there}
 use Rattle.fork_model.proofs.PartLemmas.{part_or_end}
 use Rattle.fork_model.proofs.ProvenanceLemmas.{object_from, upload_from}

@@ -15,7 +15,7 @@ use Rattle.fork_model.specs.Context.{Context, met_by}
 use Rattle.fork_model.specs.Runs.{Answered, Unknown, Faulted, TenantStep}
 use Rattle.fork_model.specs.View.{View}
 use Rattle.fork_model.specs.World.{HostSays, Steps, World}
-use Rattle.fork_model.proofs.Isolation.{own_request}
+use Rattle.fork_model.proofs.IsolationLemmas.{own_request}
 use Rattle.fork_model.proofs.Refusals.{refusal_keeps}
 use Rattle.fork_model.proofs.StepLemmas.{answer_tells}
 use Rattle.fork_model.proofs.Worlds.{insert_same}

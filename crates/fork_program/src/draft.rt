@@ -2,13 +2,13 @@ ghost use Rattle.std.specs.Prelude.{◌≡◌, IfErr, IfOk};
 ghost use Rattle.fork_program.specs.Keeping.{IsSaved, IsTextOf};
 
 use crate::fault::Fault;
+use crate::standing::name_of;
 use chained_log::LogWriter;
 use fork_host::Host;
 use fork_wire::write_uploads;
 use git_name::Name;
 use loose_store::{
-    LooseFiles, begin_journal, clear_journals, journal_name, read_state, settle_journal,
-    write_state,
+    LooseFiles, begin_journal, clear_journals, journal_name, settle_journal, write_state,
 };
 use std::alloc::Global;
 use std::fs::{File, Files};
@@ -20,21 +20,6 @@ pub(crate) struct Draft {
     name: Name,
     journal: LogWriter<File>,
     uploads: u64,
-}
-
-// The name of the state in a folder.
-pub(crate) fn standing_name<H: Files<File = File>>(
-    rt: &H,
-    alloc: Global,
-    dir: &str,
-) -> Result<Name, Fault>
-    ensures { IfErr result (λ fault. fault ≡ Fault.NotSaved) }
-{
-    match read_state(rt, alloc, dir) {
-        Ok(Some(state)) => Ok(journal_name(state.as_slice())),
-        Ok(None) => Ok(journal_name(b"")),
-        Err(_) => Err(Fault::NotSaved),
-    }
 }
 
 // An empty journal after the state of this name, begun over the state in the folder. What is beside the journal in
@@ -115,7 +100,7 @@ pub(crate) fn drafted_as<H: Files<File = File> + AllocGlobal, S: LooseFiles>(
     ensures saved { IsSaved host.old host.new }
     ensures text { IfOk result (λ draft. draft.state.items ≡ text.items) }
 {
-    let name = journal_name(text.as_slice());
+    let name = name_of(rt, alloc, dir, standing, text.as_slice());
     let mut journal = unnamed(rt, alloc, dir, standing, name)?;
     let Ok(uploads) = write_uploads(host, alloc, &mut journal) else {
         return Err(Fault::NotSaved);

@@ -6,7 +6,7 @@ use crate::keeping::kept_host;
 use crate::tenants::add_tenants;
 use fork_command::Hosting;
 use fork_host::Host;
-use git_name::Hashing;
+use git_name::{Hashing, Name};
 use loose_store::{Folder, Memory};
 use std::alloc::Global;
 use std::fs::{File, Files};
@@ -31,20 +31,20 @@ pub(crate) fn host_in_memory<H: RandomSource>(
     }
 }
 
-/// The host that a folder keeps, with the given tenants too.
+/// The host that a folder keeps, with the given tenants too, and the name of the state's journal.
 pub(crate) fn host_in_folder<'a, H: Files<File = File> + AllocGlobal + RandomSource>(
     rt: &'a H,
     alloc: Global,
     dir: &str,
     hosting: Hosting<'_>,
-) -> Result<Host<Folder<&'a H>>, Fault>
+) -> Result<(Host<Folder<&'a H>>, Name), Fault>
     requires { is_some hosting.dir ≡ true }
-    ensures ok { IfOk result (IsHostOf hosting.entry) }
+    ensures ok { IfOk result (λ found. IsHostOf hosting.entry found.0) }
     ensures err { IfErr result (IsUnhosted hosting.entry) }
 {
-    let mut host = kept_host(rt, alloc, dir)?;
+    let (mut host, standing) = kept_host(rt, alloc, dir)?;
     match add_tenants(&mut host, alloc, hosting.tenants) {
-        Ok(()) => Ok(host),
+        Ok(()) => Ok((host, standing)),
         Err(fault) => Err(fault),
     }
 }

@@ -1,7 +1,7 @@
 ghost use Rattle.std.specs.Prelude.{◌≡◌, IfErr, IfOk, OnOk};
 ghost use Rattle.fork_program.specs.Keeping.{IsSaved};
 
-use crate::draft::{Draft, Settled, closed, drafted, put, standing_name};
+use crate::draft::{Draft, Settled, closed, drafted, put};
 use crate::fault::Fault;
 use chained_log::LogWriter;
 use fork_host::Host;
@@ -51,12 +51,13 @@ fn is_uploading<S: LooseFiles>(alloc: Global, host: &Host<S>) -> bool {
 }
 
 impl<'a, H: Files<File = File> + AllocGlobal> Keep<'a, H> {
-    /// Saves the host's state in its folder, and begins a journal after it. After an `Err` the folder
-    /// has its old state or this one, and what belongs to it.
+    /// Saves the host's state in its folder, where the state of this name stands, and begins a journal after
+    /// it. After an `Err` the folder has its old state or this one, and what belongs to it.
     pub fn begin<S: LooseFiles>(
         rt: &'a H,
         alloc: Global,
         dir: &'a str,
+        standing: Name,
         host: &mut Host<S>,
         syncs: bool,
     ) -> Result<Keep<'a, H>, Fault>
@@ -64,7 +65,6 @@ impl<'a, H: Files<File = File> + AllocGlobal> Keep<'a, H> {
         ensures syncs { IfOk result (λ keep. (keep.syncs ≡ syncs) × (keep.journal.syncs ≡ syncs)) }
         ensures saved { IsSaved host.old host.new }
     {
-        let standing = standing_name(rt, alloc, dir)?;
         match drafted(rt, alloc, dir, standing, host) {
             Ok(draft) => Keep::over(rt, alloc, dir, host, None, draft, syncs),
             Err(fault) => Err(fault),

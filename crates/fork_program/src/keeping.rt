@@ -59,13 +59,13 @@ fn has_no_other<H: Files<File = File> + AllocGlobal>(
 }
 
 // The host that a folder keeps, over this store of its objects, and one without tenants where the
-// folder keeps none; and how many requests of its journal were done again.
+// folder keeps none; the name of the state's journal; and how many of its requests were done again.
 fn restored_host<H: Files<File = File> + AllocGlobal, S: LooseFiles + Drop>(
     rt: &H,
     alloc: Global,
     dir: &str,
     files: S,
-) -> Result<(Host<S>, u64), Fault>
+) -> Result<(Host<S>, Name, u64), Fault>
     ensures { IfErr result IsUnkept }
 {
     let state = match read_state(rt, alloc, dir) {
@@ -75,7 +75,7 @@ fn restored_host<H: Files<File = File> + AllocGlobal, S: LooseFiles + Drop>(
     let (mut host, name) = saved_host(alloc, state, files)?;
     has_no_other(rt, alloc, dir, name)?;
     match replay(rt, alloc, dir, name, &mut host) {
-        Ok(count) => Ok((host, count)),
+        Ok(count) => Ok((host, name, count)),
         Err(fault) => Err(fault),
     }
 }
@@ -86,7 +86,7 @@ fn opened_host<'a, H: Files<File = File> + AllocGlobal + RandomSource>(
     rt: &'a H,
     alloc: Global,
     dir: &str,
-) -> Result<(Host<Folder<&'a H>>, u64), Fault>
+) -> Result<(Host<Folder<&'a H>>, Name, u64), Fault>
     ensures { IfErr result IsUnkept }
 {
     let files = match Folder::open(rt, alloc, dir) {
@@ -99,17 +99,18 @@ fn opened_host<'a, H: Files<File = File> + AllocGlobal + RandomSource>(
     }
 }
 
-/// The host that a folder keeps, and one without tenants where the folder keeps none. The folder is
-/// made where it is not there, and while the host lives no other process can open it.
+/// The host that a folder keeps, and one without tenants where the folder keeps none; and the name of the
+/// state's journal. The folder is made where it is not there, and while the host lives no other process can
+/// open it.
 pub fn kept_host<'a, H: Files<File = File> + AllocGlobal + RandomSource>(
     rt: &'a H,
     alloc: Global,
     dir: &str,
-) -> Result<Host<Folder<&'a H>>, Fault>
+) -> Result<(Host<Folder<&'a H>>, Name), Fault>
     ensures { IfErr result IsUnkept }
 {
     match opened_host(rt, alloc, dir) {
-        Ok((host, _)) => Ok(host),
+        Ok((host, name, _)) => Ok((host, name)),
         Err(fault) => Err(fault),
     }
 }
@@ -130,7 +131,7 @@ pub fn standing_host<'a, H: Files<File = File> + AllocGlobal + RandomSource>(
         Err(fault) => return Err(of_state(fault)),
     }
     match opened_host(rt, alloc, dir) {
-        Ok(opened) => Ok(opened),
+        Ok((host, _, count)) => Ok((host, count)),
         Err(fault) => Err(fault),
     }
 }

@@ -32,6 +32,7 @@ mod saving;
 mod send;
 mod serve;
 mod stall;
+mod standing;
 mod table;
 mod telling;
 mod tenants;

@@ -1,8 +1,9 @@
 ghost use Rattle.std.specs.Prelude.{◌≡◌, ℕ, List, IfErr, OnOk};
 ghost use Rattle.fork_program.specs.Keeping.{IsTextOf};
 
-use crate::draft::{drafted, drafted_as, put, standing_name};
+use crate::draft::{drafted, drafted_as, put};
 use crate::fault::Fault;
+use crate::standing::standing_name;
 use fork_host::Host;
 use loose_store::LooseFiles;
 use std::alloc::Global;

@@ -11,6 +11,7 @@ use crate::keep::Keep;
 use crate::listening::{Listening, listen, show};
 use fork_command::Hosting;
 use fork_host::Host;
+use git_name::Name;
 use loose_store::LooseFiles;
 use std::alloc::Global;
 use std::fs;
@@ -122,6 +123,7 @@ fn keep_connections<'x, H: Files<File = File> + Net + AllocGlobal + Clock, S: Lo
     rt: &'x H,
     alloc: Global,
     dir: &'x str,
+    standing: Name,
     host: &mut Host<S>,
     listening: Listening,
     socket: &str,
@@ -132,7 +134,7 @@ fn keep_connections<'x, H: Files<File = File> + Net + AllocGlobal + Clock, S: Lo
     ensures ok { (hosting : Hosting) → IsKeptHostOf hosting host.old → OnOk result (IsListened hosting at_once connections) }
     ensures err { (hosting : Hosting) → IsKeptHostOf hosting host.old → IfErr result (IsUnlistened hosting at_once connections) }
 {
-    let mut keep = Keep::begin(rt, alloc, dir, host, syncs)?;
+    let mut keep = Keep::begin(rt, alloc, dir, standing, host, syncs)?;
     show(rt, alloc, socket)?;
     let served = serve_kept_at(
         rt,
@@ -156,6 +158,7 @@ fn serve_kept_host<'x, H: Files<File = File> + Net + AllocGlobal + Clock, S: Loo
     rt: &'x H,
     alloc: Global,
     dir: &'x str,
+    standing: Name,
     host: &mut Host<S>,
     socket: &str,
     connections: u32,
@@ -170,6 +173,7 @@ fn serve_kept_host<'x, H: Files<File = File> + Net + AllocGlobal + Clock, S: Loo
         rt,
         alloc,
         dir,
+        standing,
         host,
         listening,
         socket,
@@ -210,11 +214,12 @@ fn serve_in_folder<'x, H: Files<File = File> + Net + AllocGlobal + RandomSource 
     ensures err { IfErr result (IsUnlistened hosting.entry at_once connections) }
 {
     let syncs = hosting.syncs;
-    let mut host = host_in_folder(rt, alloc, dir, hosting)?;
+    let (mut host, standing) = host_in_folder(rt, alloc, dir, hosting)?;
     serve_kept_host(
         rt,
         alloc,
         dir,
+        standing,
         &mut host,
         socket,
         connections,

@@ -14,7 +14,7 @@ use Rattle.fork_host.specs.declared.restore_error.RestoreError.TheVariants as re
 use Rattle.fork_state.specs.declared.fault.LoadFault.{LoadFault}
 use Rattle.fork_state.specs.declared.fault.LoadFault.TheVariants.{Line, Lost, Damaged, Unsound, OverLimit, Store, Memory}
 
--- how what is wrong with a restored host is reported
+-- the load fault that reports a restore error
 abbrev pub restore_fault : RestoreError → LoadFault
 restore_fault (restore.Lost name) = Lost name
 restore_fault (restore.Damaged name) = Damaged name
@@ -27,7 +27,8 @@ restore_fault restore.Memory = Memory
 abbrev pub IsText : List ℕ → Type 0
 IsText text = (states : States) × IsStateText states text
 
--- what a text alone decides of a fault, over any store: its first wrong line, or that it is a state text, if memory did not run out
+-- what a fault says about the text alone, over any store: its first wrong line, or that it is a state text; if memory ran out,
+-- nothing
 abbrev pub IsTextFault : List ℕ → LoadFault → Type 0
 IsTextFault text (Line number) = IsWrongLine text number
 IsTextFault text Memory = ⊤
@@ -39,7 +40,7 @@ pub record IsRefusedText (files : Files) (text : List ℕ) (error : RestoreError
   pub tells : IsStateText states text
   pub refused : AreRefused files states error
 
--- the first wrong line of what is not a state text; otherwise why its states are refused
+-- why a text is not loaded: its first wrong line, if it is not a state text; otherwise why its states are refused
 abbrev pub IsLoadFault : Files → List ℕ → LoadFault → Type 0
 IsLoadFault files text (Line number) = IsWrongLine text number
 IsLoadFault files text (Lost name) = IsRefusedText files text (restore.Lost name)
@@ -59,10 +60,10 @@ pub record IsLoaded (files : Files) (text : List ℕ) (world : World) : Type 0 w
 abbrev pub AcceptsItsWorld : Type 0
 AcceptsItsWorld = (world : World) (files : Files) (error : RestoreError) → IsSoundWorld world → HasWorld files world → AreRefused files (states_of world) error → IsStoreOrMemory error
 
--- and what is shown again is that world, except open uploads
+-- and what is shown again is that world, except its open uploads
 abbrev pub ShowsItsWorld : Type 0
 ShowsItsWorld = (world new : World) (files : Files) → IsSoundWorld world → HasWorld files world → IsShownAgain files (states_of world) new → new ≡ without_uploads world
 
--- and so is what is loaded from the text that was saved
+-- and what is loaded from the text that was saved is that world too, except its open uploads
 abbrev pub LoadsItsWorld : Type 0
 LoadsItsWorld = (world new : World) (files : Files) (text : List ℕ) → IsSoundWorld world → HasWorld files world → IsStateText2 (states_of world) text → IsLoaded files text new → new ≡ without_uploads world

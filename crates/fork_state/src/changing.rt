@@ -39,7 +39,7 @@ fn keep_tenant(states: &mut States, tenant: TenantState) -> Result<(), AllocErro
     }
 }
 
-// The states, with this limit for the tenant of this name.
+// The states, with `limit` for the tenant called `name`.
 pub(crate) fn with_limit(
     alloc: Global,
     states: States,
@@ -49,7 +49,7 @@ pub(crate) fn with_limit(
     requires { limit ≤ MAX_LIMIT }
     ensures { IfOk result (λ changed. changed ≡ states_limited name.now limit states) }
 {
-    // Called for its clause: the states are right.
+    // Called for its clause: the states are valid.
     let _states = states.as_slice();
     let mut changed = States::new(alloc);
     for tenant in states.into_vec() {
@@ -59,7 +59,7 @@ pub(crate) fn with_limit(
     Ok(changed)
 }
 
-// The states without that of the tenant of this name.
+// The states without that of the tenant called `name`.
 pub(crate) fn without(
     alloc: Global,
     states: States,
@@ -67,7 +67,7 @@ pub(crate) fn without(
 ) -> Result<States, AllocError>
     ensures { IfOk result (λ changed. changed ≡ states_without name.now states) }
 {
-    // Called for its clause: the states are right.
+    // Called for its clause: the states are valid.
     let _states = states.as_slice();
     let mut changed = States::new(alloc);
     for tenant in states.into_vec() {

@@ -1,5 +1,5 @@
 //! The state of a host, saved as a text and loaded again over a store. A loaded host shows what the
-//! text describes; a text that describes objects that the store does not hold is refused.
+//! text describes. A text that describes objects that the store does not hold is refused.
 #![tactic(auto)]
 
 mod changing;

@@ -1,4 +1,4 @@
-// A tenant's state with another limit, built anew.
+// Rebuilds a tenant's state with another limit.
 ghost use Rattle.std.specs.Prelude.{◌≡◌, ◌≢◌, ◌<◌, ◌≤◌, ◌∷◌, ◌++◌, [], IfOk, OnOk, length, map};
 ghost use Rattle.fork_request.specs.declared.limit.TheConstants.{MAX_LIMIT};
 ghost use Rattle.fork_model.specs.declared.limits.TheConstants.{MAX_OFFERS, MAX_REPOSITORIES};
@@ -99,7 +99,7 @@ fn relimited(alloc: Global, tenant: TenantState, limit: u64) -> Result<TenantSta
     requires { limit ≤ MAX_LIMIT }
     ensures { IfOk result (λ changed. changed ≡ record tenant { limit = limit }) }
 {
-    // Called for its clause: the state is right.
+    // Called for its clause: the state is valid.
     let _name = tenant.name();
     let (name, _, repositories, seen, offers) = tenant.into_parts();
     let Some(mut changed) = TenantState::new(alloc, name, limit) else {
@@ -111,7 +111,7 @@ fn relimited(alloc: Global, tenant: TenantState, limit: u64) -> Result<TenantSta
     Ok(changed)
 }
 
-// The tenant's state, with this limit if it is the tenant of this name.
+// The tenant's state, with `limit` if the tenant is called `name`.
 pub(crate) fn limited(
     alloc: Global,
     tenant: TenantState,

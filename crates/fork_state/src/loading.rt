@@ -9,8 +9,8 @@ use loose_store::LooseFiles;
 use state_text::{StateFault, read};
 use std::alloc::Global;
 
-/// The host of this state, over the store that holds its objects. The text may be of either version. It
-/// is checked first, whatever the store does, and then what it describes.
+/// Loads the host that the text describes, over the store that holds its objects. The text may be of either
+/// version. The text is checked first, whatever the store does; what it describes is checked after that.
 pub fn load<S: LooseFiles + Drop>(
     alloc: Global,
     text: &[u8],
@@ -36,7 +36,7 @@ pub fn load<S: LooseFiles + Drop>(
     }
 }
 
-// How what is wrong with a restored host is reported.
+// The load fault that reports a restore error.
 fn of_restore(error: RestoreError) -> LoadFault
     ensures { result ≡ restore_fault error }
 {

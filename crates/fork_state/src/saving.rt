@@ -25,7 +25,7 @@ pub fn save<S: LooseFiles>(alloc: Global, host: &Host<S>) -> Result<Vec<u8>, NoM
 fn spell(alloc: Global, states: &States) -> Result<Vec<u8>, NoMemory>
     ensures { IfOk result (λ text. IsStateText2 states.now text.items) }
 {
-    // Called for its clause: the states are right.
+    // Called for its clause: the states are valid.
     let _tenants = states.as_slice();
     let Ok(text) = write(alloc, states) else {
         return Err(NoMemory);
@@ -33,8 +33,8 @@ fn spell(alloc: Global, states: &States) -> Result<Vec<u8>, NoMemory>
     Ok(text)
 }
 
-/// The same, with this limit for this tenant; nothing if the tenant does not exist or the limit is
-/// above the greatest.
+/// Like `save`, but with this limit for this tenant. Returns `None` if the tenant does not exist, or if the
+/// limit is above `MAX_LIMIT`.
 pub fn save_limited<S: LooseFiles>(
     alloc: Global,
     host: &Host<S>,
@@ -61,8 +61,8 @@ pub fn save_limited<S: LooseFiles>(
     }
 }
 
-/// The same without this tenant: its repositories, what it sees and its offers. Offers that others made
-/// to it stay. Nothing if the tenant does not exist.
+/// Like `save`, but without this tenant: its repositories, what it sees and its offers are left out. Offers
+/// that others made to it stay. Returns `None` if the tenant does not exist.
 pub fn save_without<S: LooseFiles>(
     alloc: Global,
     host: &Host<S>,

@@ -1,4 +1,4 @@
--- Frames that are served again (own): no host fault answers them, and nothing is sent to anyone.
+-- Frames that are repeated (own): no host fault answers them, and no reply is sent.
 use Rattle.std.specs.Prelude.{◌≡◌, ℕ, Bool, true, false, cond, IfSome, List, [], ◌∷◌, Option, length}
 use Rattle.std.specs.List.{AllByRecursion}
 use Rattle.fork_request.specs.Told.{is_host_fault}
@@ -23,7 +23,7 @@ is_settled_host Fsck = false
 is_settled_host Tenants = true
 is_settled_host Bad = true
 
--- the same of a step: the world always determines what a tenant is told
+-- the same for a step: the world always determines what a tenant is told
 abbrev pub is_settled : Event → Bool
 is_settled (Asks tenant ask) = true
 is_settled (HostAsks request) = is_settled_host request
@@ -44,7 +44,7 @@ pub record IsAnsweredAgain (old new : HostState) (frame : Frame) : Type 0 where
   pub fine : is_host_fault reply ≡ false
   pub step : IsStep old (event_of frame) reply new
 
--- this many frames, which are all that the input begins with, were answered, none by a host fault
+-- this many frames, all the frames at the start of the input, were answered, none by a host fault
 pub record IsServedAgain (old new : HostState) (input : Option (List ℕ)) (count : ℕ) : Type 0 where
   pub frames : List Frame
   pub replies : List Reply

@@ -1,4 +1,4 @@
--- Many connections to one host at once (own): what was done at each of them, and what was answered, are one list.
+-- Many connections to one host at once (own): what was done at all of them, and what was answered, form one list.
 use Rattle.std.specs.Prelude.{◌⊎◌, Bool, ℕ, List, [], ◌∷◌, Option, Result, Ok, Err}
 use Rattle.std.specs.Io.KnownBytes.{Appends}
 use Rattle.fork_request.specs.declared.reply.Reply.{Reply}
@@ -27,19 +27,20 @@ frames_in steps = asked (acts_of steps)
 abbrev pub replies_in : List Step → List Reply
 replies_in steps = replied (acts_of steps)
 
--- acts led from these peers to those, the host answered as in one session, and the journal has what is kept of that, in the order
--- of the answers
+-- acts led from the first peers to the last ones, the host answered as in one session, and the journal has what is kept of that
+-- session, in the order of the answers
 pub record IsServedAtOnce (old new : HostState) (before after : Option (List ℕ)) (first last : ℕ → Peer) : Type 0 where
   pub steps : List Step
   pub runs : Runs first steps last
   pub answered : IsAnswered old new (frames_in steps) (replies_in steps)
   pub kept : Appends before after (kept_bytes (frames_in steps) (replies_in steps))
 
--- to each peer only what waited for it before went out
+-- each peer was sent only what already waited for it
 abbrev pub SendsLate : (ℕ → Peer) → List Step → Type 0
 SendsLate first steps = (place : ℕ) → SendsWhatWaited (first place) (acts_at place steps)
 
--- the same, up to a frame that was answered and could not be kept: nothing was done after that, so its reply did not go out
+-- turns of the same kind, up to a frame that was answered but could not be kept: nothing was done after that, so its reply was
+-- not sent
 pub record IsCutOff {P : Type 0} (peer : P → Peer) (old new : HostState) (before : Option (List ℕ)) (first : ℕ → Peer) (parties left : List P) : Type 0 where
   pub mid : HostState
   pub kept : Option (List ℕ)
@@ -52,7 +53,7 @@ pub record IsCutOff {P : Type 0} (peer : P → Peer) (old new : HostState) (befo
   pub reply : Reply
   pub step : IsStep mid (event_of frame) reply new
 
--- a round of whatever connections stand in a table led to those that stand in another, and only what waited before it went out
+-- a round led from the connections in one table to those in another, and only what already waited was sent
 pub record IsRound {P : Type 0} (peer : P → Peer) (is_over : P → Bool) (old new : HostState) (before after : Option (List ℕ)) (first : ℕ → Peer) (parties left : List P) : Type 0 where
   pub last : ℕ → Peer
   pub stands : Stands peer is_over last left
@@ -60,7 +61,7 @@ pub record IsRound {P : Type 0} (peer : P → Peer) (is_over : P → Bool) (old 
   pub late : SendsLate first served.steps
   pub gone : GoesOut peer parties left served.steps
 
--- turns of all of them, of which what was kept could not be synced, so that no reply to it went out
+-- turns of all connections, but what was kept of them could not be synced, so no reply to it was sent
 pub record IsUnsynced {P : Type 0} (peer : P → Peer) (old new : HostState) (before : Option (List ℕ)) (first : ℕ → Peer) (parties left : List P) : Type 0 where
   pub kept : Option (List ℕ)
   pub last : ℕ → Peer
@@ -68,7 +69,7 @@ pub record IsUnsynced {P : Type 0} (peer : P → Peer) (old new : HostState) (be
   pub late : SendsLate first served.steps
   pub gone : GoesOut peer parties left served.steps
 
--- such a round, or one that was cut off, or one that could not be synced
+-- how a round ends: complete, cut off, or not synced
 abbrev pub EndsRound : {P : Type 0} (peer : P → Peer) (is_over : P → Bool) → HostState → HostState → Option (List ℕ) → Option (List ℕ) → (ℕ → Peer) → List P → List P → Result (Unit {0}) NotKept → Type 0
 EndsRound peer is_over old new before after first parties left (Ok done) = IsRound peer is_over old new before after first parties left
 EndsRound peer is_over old new before after first parties left (Err lost) = IsCutOff peer old new before first parties left ⊎ IsUnsynced peer old new before first parties left

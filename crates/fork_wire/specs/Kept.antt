@@ -43,7 +43,7 @@ abbrev pub is_part_end : Ask → Bool
 is_part_end (EndsParts repository) = true
 is_part_end ask = false
 
--- the view is as it was before the request was answered this way
+-- a request with this reply left the view unchanged
 abbrev pub leaves : Ask → Reply → Bool
 leaves ask (Done text) = only_asks ask
 leaves ask (Refused refusal) = not (is_part_end ask)
@@ -77,7 +77,7 @@ replies_kept (frame ∷ frames) (reply ∷ replies) = cond (is_kept frame reply)
 abbrev pub kept_bytes : List Frame → List Reply → List ℕ
 kept_bytes frames replies = flat_map frame_bytes (kept_of frames replies)
 
--- what a session's end says about its journal: that a frame could not be kept or synced, or that it is as complete as it was
+-- what a session's end says about its journal: a frame could not be kept or synced, or the journal is as complete as it was
 abbrev pub TellsCut : {A : Type 0} → Bool → Bool → Result A SessionFault → Type 0
 TellsCut before now (Ok ended) = now ≡ before
 TellsCut before now (Err Read) = now ≡ before
@@ -85,6 +85,6 @@ TellsCut before now (Err Write) = now ≡ before
 TellsCut before now (Err Memory) = now ≡ before
 TellsCut before now (Err Journal) = now ≡ true
 
--- all that was kept is synced, as far as both are known, if this is true
+-- if this flag is true, all that was kept is synced, as far as both are known
 abbrev pub SyncedIf : Bool → Option (List ℕ) → Option (List ℕ) → Type 0
 SyncedIf is synced kept = is ≡ true → Keeps synced kept

@@ -1,4 +1,4 @@
--- Frames that open uploads again (own): `part` requests, whose pieces are bytes of the same upload.
+-- Frames that reopen uploads (own): `part` requests, whose pieces are bytes of the same upload.
 use Rattle.std.specs.Prelude.{◌≡◌, ℕ, ◌≤◌, All, List, [], ◌∷◌, ◌++◌, Some, codes, length, map}
 use Rattle.std.specs.List.{concat}
 use Rattle.push_stream.specs.Upload.{UploadValue, upload_of}
@@ -23,13 +23,13 @@ pub record ArePartFrames (tenant bytes : List ℕ) (frames : List Frame) : Type 
 abbrev pub with_upload : View → List ℕ → View
 with_upload view bytes = record view { upload = Some (upload_of bytes) }
 
--- frames that open this upload again
+-- frames that reopen this upload
 pub record ReopensOne (tenant : List ℕ) (upload : UploadValue) (frames : List Frame) : Type 0 where
   pub bytes : List ℕ
   pub stands : upload_of bytes ≡ upload
   pub parts : ArePartFrames tenant bytes frames
 
--- frames that open these uploads again, one after another
+-- frames that reopen these uploads, one after another
 abbrev pub Reopens : List (List ℕ × UploadValue) → List Frame → Type 0
 Reopens [] frames = frames ≡ []
 Reopens (upload ∷ uploads) frames = (first : List Frame) × (rest : List Frame) × (frames ≡ first ++ rest) × ReopensOne upload.0 upload.1 first × Reopens uploads rest

@@ -53,15 +53,16 @@ frames_of replies = flat_map (λ reply. reply_frame (bytes_of reply)) replies
 abbrev pub told_to : List ℕ → List Frame → List Reply → List ℕ
 told_to tenant frames replies = frames_of (told tenant (events_of frames) replies)
 
--- each tenant that no host fault answered was told what a private host that meets the same offers would tell it, and is left as
--- there; if no offer to it was made or withdrawn, one that meets the offers at the start
+-- each tenant that no host fault answered was told what a private host that meets the same offers would tell it, and has the view
+-- that it would have there; if no offer to it was made or withdrawn, a private host that meets the offers at the start is enough
 pub record IsPrivateRun (old : World) (events : List Event) (replies : List Reply) (new : World) : Type 0 where
   pub met : (tenant : List ℕ) (view : View) (run : Explains old events replies new) → get old tenant ≡ Some view → IsUnfaulted tenant events replies
       → (told tenant events replies ≡ (alone view (World.met tenant old events replies new run)).0) × (get new tenant ≡ Some (alone view (World.met tenant old events replies new run)).1)
   pub steady : (tenant : List ℕ) (view : View) → get old tenant ≡ Some view → IsUnfaulted tenant events replies → LeavesOffers tenant events replies
       → (told tenant events replies ≡ (alone view (meeting (met_by old tenant) (own tenant events))).0) × (get new tenant ≡ Some (alone view (meeting (met_by old tenant) (own tenant events))).1)
 
--- the replies are one to each frame, and lead from state to state. Over a trusted store each tenant's are those of a private host
+-- each frame has one reply, and the replies lead from the old state to the new one. Over a trusted store each tenant's replies are
+-- those of a private host
 pub record IsAnswered (old new : HostState) (frames : List Frame) (replies : List Reply) : Type 0 where
   pub ran : IsRun old (events_of frames) replies new
   pub private_run : Trusted old → IsPrivateRun (world_of old) (events_of frames) replies (world_of new)
@@ -78,7 +79,7 @@ pub record IsServed (old new : HostState) (input before after : Option (List ℕ
 abbrev pub BeginsWith : List Frame → List ℕ → Type 0
 BeginsWith frames input = (came : List ℕ) × (rest : List ℕ) × AreFrames frames came × (input ≡ came ++ rest)
 
--- something is to be sent: an answer, or that the input is not a frame
+-- there is something to send: a reply, or the report that the input is not a frame
 abbrev pub IsTelling : List Frame → Option (List ℕ) → Type 0
 IsTelling [] input = IfSome input IsBad
 IsTelling (frame ∷ frames) input = ⊤
@@ -112,8 +113,8 @@ pub record BreaksEnd (frames : List Frame) (replies : List Reply) (input before 
   pub broken : WritesFront mid after (last_line BadFrame)
 
 -- a session that a fault stopped: the first frames of the input were answered. If reading failed, all their replies were sent.
--- Writing fails only if something is to be sent: then a prefix of it was sent, after all that precedes it. Memory runs out only for
--- a payload that comes, or for the bytes of a reply. If the last frame could not be kept, its reply was not sent
+-- Writing fails only if there is something to send: then a prefix of it was sent, after all that precedes it. Memory runs out only
+-- for an incoming payload, or for the bytes of a reply. If the last frame could not be kept, its reply was not sent
 pub record IsStopped (old new : HostState) (input before after : Option (List ℕ)) (fault : SessionFault) : Type 0 where
   pub frames : List Frame
   pub replies : List Reply

@@ -17,7 +17,7 @@ use std::alloc::Global;
 use std::io::Read;
 use thiserror::Error;
 
-/// Why serving frames again stopped before their end.
+/// Why `serve_again` stopped before the end of the frames.
 #[derive(Clone, Copy, Debug, PartialEq, Eq, Error)]
 pub enum AgainFault {
     #[error("the input could not be read")]
@@ -30,7 +30,7 @@ pub enum AgainFault {
     Host(HostFault),
 }
 
-// The fault of a request that is repeated.
+// The host fault that answered a repeated request.
 impl From<HostFault> for AgainFault {
     ghost use Rattle.fork_wire.specs.declared.again.AgainFault.{AgainFault};
 
@@ -41,10 +41,10 @@ impl From<HostFault> for AgainFault {
     }
 }
 
-/// Serves frames that were answered before, up to the end of the input or to what is not a frame, and
-/// returns how many there were. Nothing is sent to anyone. It stops at a host fault, and at a frame
-/// that follows one that no journal would have kept: so what a kill or a loss of power leaves at the
-/// end is skipped, and an alteration elsewhere is reported.
+/// Repeats frames that were answered before, and returns how many there were. It reads up to the end of
+/// the input, or up to bytes that are not a frame, and sends no reply. It returns an error at a host
+/// fault, and at a frame that follows one that no journal would have kept. So what a kill or a power loss
+/// leaves at the end is skipped, and an alteration elsewhere is reported.
 pub fn serve_again<S: LooseFiles, R: Read>(
     host: &mut Host<S>,
     alloc: Global,

@@ -19,12 +19,12 @@ use loose_store::LooseFiles;
 use std::alloc::Global;
 use std::io::{Read, Write};
 
-// A host, and what keeps the frames that may have changed it, each before its reply goes out.
+// A host and its journal. Each frame that may have changed the host is kept before its reply is sent.
 #[derive(Drop)]
 struct Keeping<'a, S: LooseFiles, J> {
     host: &'a mut Host<S>,
     journal: &'a mut J,
-    // Nothing was kept since it was last synced.
+    // Nothing was kept since the last sync.
     is_synced: bool,
 }
 
@@ -59,12 +59,12 @@ impl<S: LooseFiles, J: Journal> Answering for Keeping<'_, S, J> {
     }
 }
 
-/// One turn of each connection to a host, in which what waited before goes out, and at most one frame of it
-/// is answered, and kept if it may have changed the host. Behind the turns what was kept is synced, once for
-/// all, where the journal syncs: so each reply goes out in a later round than that in which its frame was
-/// answered, kept and synced. While more than `most` bytes wait to go out in all, no frame is taken. If a
-/// frame cannot be kept, or not synced, its reply does not go out, and nothing more is to be done. What comes
-/// is read through the buffer; if that has no room, nothing is done.
+/// Gives each connection to a host one turn. A turn sends what already waited, and answers at most one frame;
+/// the frame is kept if it may have changed the host. After the turns, what was kept is synced once for all
+/// of them, if the journal syncs. So each reply is sent in a later round than the one in which its frame was
+/// answered, kept and synced. While more than `most` bytes in total wait to be sent, no frame is taken. If a
+/// frame cannot be kept or synced, its reply is not sent, and nothing more may be done. Input is read through
+/// `buffer`; if `buffer` has no room, nothing is done.
 pub fn serve_round<S: LooseFiles, J: Journal, R: Read, W: Write>(
     host: &mut Host<S>,
     alloc: Global,
@@ -90,7 +90,7 @@ pub fn serve_round<S: LooseFiles, J: Journal, R: Read, W: Write>(
     keep_round(&mut keeping, alloc, parties, buffer, most)
 }
 
-// The turns, of a host and what keeps its frames.
+// The turns of a round, without the sync.
 fn turns<S: LooseFiles, J: Journal, R: Read, W: Write>(
     keeping: &mut Keeping<'_, S, J>,
     alloc: Global,
@@ -118,7 +118,7 @@ fn turns<S: LooseFiles, J: Journal, R: Read, W: Write>(
     }
 }
 
-// The turns, and then the sync.
+// The turns of a round, and then the sync.
 fn keep_round<S: LooseFiles, J: Journal, R: Read, W: Write>(
     keeping: &mut Keeping<'_, S, J>,
     alloc: Global,

@@ -3,7 +3,7 @@ ghost use Rattle.std.specs.Prelude.{◌≡◌, ◌≢◌};
 use fork_frame::{FrameFault, ReplyFault};
 use thiserror::Error;
 
-/// Why a session stopped before its end. The host is as the requests answered so far leave it.
+/// Why a session stopped before its end. The host is in the state that the requests answered so far produced.
 #[derive(Clone, Copy, Debug, PartialEq, Eq, Error)]
 pub enum SessionFault {
     #[error("the input could not be read")]
@@ -16,7 +16,7 @@ pub enum SessionFault {
     Journal,
 }
 
-// The fault of a frame that could not be read.
+// The session fault for a frame that could not be read.
 pub(crate) fn of_frame(fault: FrameFault) -> SessionFault
     ensures read { result ≢ SessionFault.Write }
     ensures kept { result ≢ SessionFault.Journal }
@@ -28,7 +28,7 @@ pub(crate) fn of_frame(fault: FrameFault) -> SessionFault
     }
 }
 
-// The fault of a reply that could not be sent.
+// The session fault for a reply that could not be sent.
 pub(crate) fn of_reply(fault: ReplyFault) -> SessionFault
     ensures sent { result ≢ SessionFault.Read }
     ensures kept { result ≢ SessionFault.Journal }

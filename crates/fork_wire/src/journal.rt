@@ -9,17 +9,17 @@ use fork_request::MAX_PAYLOAD;
 use std::alloc::{AllocError, Global};
 use std::io::Write;
 
-/// A frame could not be kept, or only in part, or what was kept could not be synced. Nothing more may be
-/// kept after it.
+/// A frame could not be kept, or was kept only in part, or what was kept could not be synced. After this,
+/// nothing more may be kept.
 #[derive(Clone, Copy, Debug, PartialEq, Eq)]
 pub struct NotKept;
 
-/// Keeps frames in order, so that they can be served again.
+/// Keeps frames in order, so that they can be repeated.
 pub trait Journal {
     /// The bytes of the frames that it has, if they are known.
     ghost kept: { Self → Option (List ℕ) };
 
-    /// The bytes that a loss of power leaves, if they are known.
+    /// The bytes that survive a power loss, if they are known.
     ghost synced: { Self → Option (List ℕ) };
 
     /// Whether keeping or syncing may fail.
@@ -36,7 +36,7 @@ pub trait Journal {
         ensures whole { OnOk result (is_cut self.new ≡ is_cut self.old) }
         ensures cut { OnErr result (is_cut self.new ≡ true) };
 
-    /// Syncs all that was kept, so that a loss of power leaves it. A journal that was cut is not synced.
+    /// Syncs all that was kept, so that it survives a power loss. A journal that was cut is not synced.
     fn sync(&mut self) -> Result<(), NotKept>
         ensures ok { OnOk result (Keeps (synced self.new) (kept self.new)) }
         ensures kept { Keeps (kept self.old) (kept self.new) }
@@ -70,7 +70,7 @@ impl Journal for NoJournal {
     }
 }
 
-/// A journal that writes each frame at once, and syncs what it wrote if it was made so.
+/// A journal that writes each frame immediately. It syncs what it wrote if it was created with `syncs`.
 #[derive(Drop)]
 pub struct Written<W> {
     writer: W,
@@ -80,7 +80,7 @@ pub struct Written<W> {
     // How many of the frames visit all objects of a tenant when they are repeated.
     visits: u64,
     is_cut: bool,
-    // Whether its writer is synced.
+    // Whether `sync` syncs the writer.
     syncs: bool,
 }
 
@@ -88,8 +88,8 @@ pub struct Written<W> {
 const LONGEST_FRAME: usize = MAX_PAYLOAD + 41;
 
 impl<W: Write + Drop> Written<W> {
-    /// A journal that writes after what the writer has, and syncs it if `syncs`. It allocates all its memory
-    /// here.
+    /// Creates a journal that appends to what the writer has, and syncs the writer if `syncs`. All its memory
+    /// is allocated here.
     pub fn new(alloc: Global, writer: W, syncs: bool) -> Result<Written<W>, AllocError>
         ensures begins { IfOk result (λ journal. (journal.writer ≡ writer) × (journal.bytes ≡ 0) × (journal.is_cut ≡ false)) }
         ensures syncs { IfOk result (λ journal. journal.syncs ≡ syncs) }
@@ -114,8 +114,8 @@ impl<W> Written<W> {
         self.bytes
     }
 
-    /// How many of the frames that were kept may visit all objects of a tenant when they are repeated: such a
-    /// frame is short, and takes long.
+    /// How many of the frames that were kept may visit all objects of a tenant when they are repeated. Such a
+    /// frame is short but takes long to repeat.
     pub fn visits(&self) -> u64
         ensures { result ≡ self.now.visits }
     {

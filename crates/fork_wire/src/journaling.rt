@@ -58,7 +58,7 @@ pub(crate) fn visits_all(payload: &[u8]) -> bool {
     }
 }
 
-// Whether the tenant's view is as it was before the request was answered this way.
+// Whether a request with this reply left the tenant's view unchanged.
 fn leaves(payload: &[u8], reply: &Reply) -> bool
     ensures { result ≡ is_left (asked payload.now) reply.now }
 {
@@ -69,7 +69,7 @@ fn leaves(payload: &[u8], reply: &Reply) -> bool
     }
 }
 
-/// Whether the frame, answered this way, may have changed its tenant's view.
+/// Whether a frame with this reply may have changed its tenant's view.
 pub(crate) fn may_change(frame: &Frame, reply: &Reply) -> bool
     ensures { result ≡ is_kept frame.now reply.now }
 {
@@ -79,8 +79,8 @@ pub(crate) fn may_change(frame: &Frame, reply: &Reply) -> bool
     }
 }
 
-/// Keeps a frame that was answered this way, if it may have changed the host, and then syncs it. Returns
-/// whether that succeeded.
+/// Keeps and syncs a frame with this reply, if it may have changed the host. Returns `false` if keeping or
+/// syncing failed.
 pub(crate) fn keep_synced<J: Journal>(journal: &mut J, frame: &Frame, reply: &Reply) -> bool
     ensures kept { IsTrue result → Appends (J.kept journal.old) (J.kept journal.new) (kept_one frame.now reply.now) }
     ensures synced { IsTrue result → Keeps (J.synced journal.old) (J.kept journal.old) → Keeps (J.synced journal.new) (J.kept journal.new) }

@@ -18,12 +18,12 @@ ghost use Rattle.fork_wire.specs.Kept.{kept_bytes, kept_of};
 ghost use Rattle.fork_wire.specs.Reopening.{ArePartFrames, Reopens, with_upload};
 ghost use Rattle.fork_wire.specs.Sessions.{IsAnswered, events_of, frames_of, payloads_of, told_to};
 
-/// A law, with no code to run. Let two hosts over trusted stores show a tenant alike and offer it the
-/// same, and let it send the same payloads to both. Then both send it the same bytes, whatever others
-/// send between, and both show it alike again and offer it the same; unless a host fault answered it,
-/// or an offer to it was made or withdrawn. The same holds if equal offers to it are made and withdrawn
-/// at the same places between its requests. `frames` and `replies` are those of `IsServed` or
-/// `IsStopped`.
+/// A law, with no code to run: if two hosts over trusted stores show a tenant the same view and the same
+/// offers, and it sends the same payloads to both, then both send it the same bytes, whatever others send
+/// in between. Afterwards both again show it the same view and the same offers. This holds unless a host
+/// fault answered the tenant, or an offer to it was made or withdrawn. It also holds if equal offers to it
+/// are made and withdrawn at the same places between its requests. `frames` and `replies` are those of
+/// `IsServed` or `IsStopped`.
 pub fn two_sessions_agree()
     ensures explained { (old new : HostState) (frames : List Frame) (replies : List Reply)
         → IsAnswered old new frames replies → Trusted old → Explains (world_of old) (events_of frames) replies (world_of new) }
@@ -50,9 +50,9 @@ pub fn two_sessions_agree()
         → (told_to tenant frames replies ≡ told_to tenant frames2 replies2) × Agree tenant (world_of new) (world_of new2) }
 {}
 
-/// A law, with no code to run: frames that are served again, over trusted stores that show the same
-/// world and without host faults, get the same replies and lead to the same world; except for the
-/// numbers that report to the host itself on its store, which the worlds do not determine.
+/// A law, with no code to run: frames that are repeated get the same replies and lead to the same world, if
+/// the stores are trusted and show the same world, and no host fault occurs. The exception is the numbers
+/// that report on the store to the host itself: the worlds do not determine them.
 pub fn a_session_is_served_again()
     ensures replies { (old new : HostState) (frames : List Frame) (replies : List Reply) (old2 new2 : HostState) (replies2 : List Reply)
         → IsAnswered old new frames replies → AreFine replies → IsAnswered old2 new2 frames replies2 → AreFine replies2
@@ -65,9 +65,9 @@ pub fn a_session_is_served_again()
         → Trusted old → Trusted old2 → world_of old ≡ world_of old2 → world_of new ≡ world_of new2 }
 {}
 
-/// A law, with no code to run: what a journal kept of a session is a stream of frames. Served again,
-/// over trusted stores that show the same world and without host faults, it leads to the world to which
-/// the whole session led, whatever host faults that met.
+/// A law, with no code to run: what a journal kept of a session is a stream of frames. Repeated without host
+/// faults, over trusted stores that show the same world, the stream leads to the same world as the whole
+/// session, whatever host faults occurred in the session.
 pub fn what_is_kept_is_enough()
     ensures frames { (frames : List Frame) (replies : List Reply) (bytes : List ℕ) → AreFrames frames bytes → AreFrames (kept_of frames replies) (kept_bytes frames replies) }
     ensures worlds { (old new : HostState) (frames : List Frame) (replies : List Reply) (old2 new2 : HostState) (replies2 : List Reply)
@@ -75,8 +75,8 @@ pub fn what_is_kept_is_enough()
         → Trusted old → Trusted old2 → world_of old ≡ world_of old2 → world_of new ≡ world_of new2 }
 {}
 
-/// A law, with no code to run: a stream that is served in two halves, cut between frames, is the stream
-/// served whole.
+/// A law, with no code to run: a stream that is cut between two frames and served in two halves is
+/// equivalent to the stream served whole.
 pub fn a_session_in_two_halves_is_the_whole()
     ensures stream { (input more : List ℕ) (frames others : List Frame) (ended : Ended)
         → IsRequestStream input frames Clean → IsRequestStream more others ended → IsRequestStream (input ++ more) (frames ++ others) ended }
@@ -85,17 +85,16 @@ pub fn a_session_in_two_halves_is_the_whole()
     ensures told { (replies more : List Reply) → frames_of (replies ++ more) ≡ frames_of replies ++ frames_of more }
 {}
 
-/// A law, with no code to run: if a tenant has no open upload, the parts of an upload open it again
-/// with all its bytes, and change nothing else.
+/// A law, with no code to run: if a tenant has no open upload, the parts of an upload reopen it with all
+/// its bytes and change nothing else.
 pub fn parts_open_an_upload_again()
     ensures { (world : World) (tenant bytes : List ℕ) (view : View) (frames : List Frame)
         → get world tenant ≡ Some view → view.upload ≡ None → length bytes ≤ MAX_UPLOAD → ArePartFrames tenant bytes frames
         → (replies : List Reply) × Explains world (events_of frames) replies (insert world tenant (with_upload view bytes)) × AreFine replies }
 {}
 
-/// A law, with no code to run: in a world without open uploads, frames that open all uploads of another
-/// world again lead to that world; and so does whatever serves them without a host fault over a trusted
-/// store.
+/// A law, with no code to run: from a world without its open uploads, frames that reopen all of them lead
+/// back to the whole world. So does serving these frames over a trusted store, if no host fault occurs.
 pub fn all_uploads_open_again()
     ensures opened { (world : World) (frames : List Frame) → IsOrderlyWorld world → Reopens (uploads_of world) frames
         → (replies : List Reply) × Explains (without_uploads world) (events_of frames) replies world × AreFine replies }
@@ -103,10 +102,10 @@ pub fn all_uploads_open_again()
         → IsAnswered old new frames replies → AreFine replies → Trusted old → world_of old ≡ without_uploads world → world_of new ≡ world }
 {}
 
-/// A law, with no code to run: rounds of many connections, one after another, are one serving. Of this
-/// all frames and replies are one list, in the order of time, so what is said of the frames and replies
-/// of a session holds of them: each tenant is told what it would be told alone, whatever connections it
-/// and others ask at. And each peer is told the replies to its own frames, in their order.
+/// A law, with no code to run: rounds of many connections, one after another, are one serving. All its
+/// frames and replies form one list, in the order of time. So what holds for the frames and replies of a
+/// session holds for this list: each tenant is told what it would be told alone, on whatever connections
+/// it and others ask. And each peer receives the replies to its own frames, in their order.
 pub fn rounds_are_one_serving()
     ensures joined { RoundsAreOne }
     ensures heard { EachIsHeardAtOnce }

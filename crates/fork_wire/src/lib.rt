@@ -1,6 +1,6 @@
-//! Sessions: requests are received as frames, and replies are sent as frames, one to each request, up
-//! to the end of the input or to what is not a frame. The replies sent explain how the host went from
-//! one world to the next.
+//! Sessions. A session receives requests as frames, and sends one reply to each, also as a frame. It ends
+//! at the end of the input, or at bytes that are not a frame. The replies sent explain how the host went
+//! from one world to the next.
 #![tactic(auto)]
 
 mod again;

@@ -20,8 +20,8 @@ use std::alloc::Global;
 use std::io::{Read, Write};
 
 /// Serves one session. It holds one frame in memory at a time, and sends and flushes each reply before
-/// it waits for the next frame. After a fault the host is as the requests answered so far leave it.
-/// Reading also fails after 2^64 - 1 frames.
+/// it waits for the next frame. After a fault the host is in the state that the requests answered so far
+/// produced. Reading also fails after 2^64 - 1 frames.
 pub fn serve<S: LooseFiles, R: Read, W: Write>(
     host: &mut Host<S>,
     alloc: Global,
@@ -40,8 +40,8 @@ pub fn serve<S: LooseFiles, R: Read, W: Write>(
     serve_kept(host, alloc, &mut NoJournal, reader, writer)
 }
 
-/// Serves one session, as `serve` does, and keeps the frames that may have changed the host, each
-/// before its reply is sent, and synced where the journal syncs. If one cannot be kept or synced, the session
+/// Serves one session like `serve`, and keeps the frames that may have changed the host. Each is kept, and
+/// synced if the journal syncs, before its reply is sent. If a frame cannot be kept or synced, the session
 /// stops and its reply is not sent.
 pub fn serve_kept<S: LooseFiles, J: Journal, R: Read, W: Write>(
     host: &mut Host<S>,
@@ -59,7 +59,7 @@ pub fn serve_kept<S: LooseFiles, J: Journal, R: Read, W: Write>(
     ensures right { Trusted host.old → IsRightWorld (world_of host.new) }
     ensures cause { IfErr result (λ fault. fault ≡ SessionFault.Journal → J.can_fail) }
 
-    // The journal has the frames of the same session that was served, or of the one that stopped.
+    // The journal has the frames of the same session that `served` or `stopped` describes.
     ensures kept { IfOk result (λ ended. (session : IsServed host.old host.new
         (R.remaining reader.old) (W.contents writer.old) (W.contents writer.new) ended)
         × Appends (J.kept journal.old) (J.kept journal.new) (kept_bytes session.frames session.replies)) }
@@ -67,12 +67,12 @@ pub fn serve_kept<S: LooseFiles, J: Journal, R: Read, W: Write>(
         (R.remaining reader.old) (W.contents writer.old) (W.contents writer.new) fault)
         × Appends (J.kept journal.old) (J.kept journal.new) (kept_bytes session.frames session.replies)) }
 
-    // What was kept is synced, if it was at first.
+    // What was kept is synced, if it was synced at the start.
     ensures synced { IfOk result (λ _. Keeps (J.synced journal.old) (J.kept journal.old) → Keeps (J.synced journal.new) (J.kept journal.new)) }
     ensures synced_so_far { IfErr result (λ fault. fault ≢ SessionFault.Journal → Keeps (J.synced journal.old) (J.kept journal.old) → Keeps (J.synced journal.new) (J.kept journal.new)) }
 
-    // If a frame could not be kept, that is how the session ended; otherwise the journal is as complete as
-    // it was.
+    // If a frame could not be kept or synced, that is why the session stopped; otherwise the journal is as
+    // complete as it was.
     ensures cut { TellsCut (J.is_cut journal.old) (J.is_cut journal.new) result }
 {
     a_run_is_private();
@@ -101,8 +101,8 @@ pub(crate) fn answer<S: LooseFiles>(host: &mut Host<S>, alloc: Global, frame: &F
     }
 }
 
-// Answers a request as received, and keeps it, synced, if it may have changed the host. Returns whether
-// that succeeded.
+// Answers a request as received, and keeps and syncs it if it may have changed the host. Returns `false`
+// if keeping or syncing failed.
 fn answer_kept<S: LooseFiles, J: Journal>(
     host: &mut Host<S>,
     alloc: Global,
@@ -121,7 +121,7 @@ fn answer_kept<S: LooseFiles, J: Journal>(
     (reply, kept)
 }
 
-// Sends a reply to what was kept.
+// Sends a reply, unless its frame could not be kept.
 fn send_kept<W: Write>(
     alloc: Global,
     writer: &mut W,

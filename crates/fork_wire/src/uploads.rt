@@ -16,7 +16,7 @@ use loose_store::LooseFiles;
 use std::alloc::{AllocError, Global};
 use std::io::Write;
 
-// The most bytes of a piece, so that its payload has the greatest length.
+// The most bytes in a piece. Its payload then has the greatest length that a frame allows.
 const MOST: usize = 1_048_571;
 
 // The frame of a piece.
@@ -72,8 +72,8 @@ fn write_upload<W: Write>(
     Ok(())
 }
 
-// Writes the frames of a tenant's open upload, and returns how many bytes they have. Writes nothing if
-// no upload is open.
+// Writes the frames of a tenant's open upload, and returns how many bytes the upload has. Writes nothing
+// if no upload is open.
 fn write_upload_of<S: LooseFiles, W: Write>(
     host: &mut Host<S>,
     alloc: Global,
@@ -98,7 +98,7 @@ fn write_upload_of<S: LooseFiles, W: Write>(
     }
 }
 
-/// Writes frames that open the host's open uploads again, and returns how many bytes they have. It does
+/// Writes frames that reopen the host's open uploads, and returns how many bytes the uploads have. It does
 /// not flush.
 pub fn write_uploads<S: LooseFiles, W: Write>(
     host: &mut Host<S>,

@@ -22,8 +22,8 @@ pub(crate) struct Draft {
     uploads: u64,
 }
 
-// Begins an empty journal for the state `name`, while `standing` is the state in the folder. Everything but the
-// journal of `standing` is removed from the journals first, so a kill leaves at most this one as well.
+// Begins an empty journal for the state `name`, while `standing` is the state in the folder. Whatever is beside
+// the journal of `standing` is removed first, so a kill leaves at most the new journal beside it.
 fn unnamed<H: Files<File = File> + AllocGlobal>(
     rt: &H,
     alloc: Global,

@@ -43,7 +43,7 @@ impl Stall {
         }
     }
 
-    /// Whether something has waited for the peer for 30 seconds, and it took nothing of it.
+    /// Whether something has waited for the peer for 30 seconds, and the peer took nothing of it.
     pub fn is_over(&self, now: Instant) -> bool
         ensures { self.now.waiting ≡ 0 → result ≡ false }
     {

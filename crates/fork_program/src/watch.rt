@@ -26,8 +26,8 @@ pub struct Watch {
     frames: u64,
 }
 
-// The deadline to take a reply of `len` bytes that is sent from now on: 30 seconds, and one more for each
-// 64 KiB.
+// The deadline to take a reply of `len` bytes that is sent from now on: 30 seconds, and one more second for
+// each 64 KiB.
 fn end_of_reply(now: Instant, len: usize) -> Option<Instant>
     ensures { IfSome result (λ end. instant_nanos end ≡ instant_nanos now + 30000000000 + len / 65536 * 1000000000) }
 {

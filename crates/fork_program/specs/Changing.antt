@@ -26,14 +26,14 @@ number_told text = option_and_then (λ parts. number_in parts.0) (split_once 32 
 abbrev pub IsTextOfWorld : World → List ℕ → Type 0
 IsTextOfWorld world text = IsStateText2 (states_of world) text
 
--- a host was saved with this tenant more, which sees nothing
+-- a host was saved with this tenant added, which sees nothing
 pub record IsTenantAdded (grant : Grant) : Type 0 where
   pub host : HostState
   pub free : refusal_to_add (world_of host) grant.tenant grant.limit ≡ None
   pub text : List ℕ
   pub saved : IsTextOfWorld (with_grant (world_of host) grant) text
 
--- why it was not
+-- why the tenant was not added
 abbrev pub IsNotAdded : Grant → Fault → Type 0
 IsNotAdded grant fault = IsUnrenewed fault ⊎ ((host : HostState) × IsUnadded (world_of host) grant fault)
 
@@ -41,7 +41,7 @@ IsNotAdded grant fault = IsUnrenewed fault ⊎ ((host : HostState) × IsUnadded 
 abbrev pub IsUseOf : HostState → List ℕ → ℕ → Type 0
 IsUseOf host tenant used = Trusted host → (view : View) → get (world_of host) tenant ≡ Some view → used ≡ use_of view.objects
 
--- a host was saved with this limit of a tenant that is there, whose objects use no more
+-- a host was saved with this limit for an existing tenant, whose objects use no more
 pub record IsLimitSet (grant : Grant) : Type 0 where
   pub host : HostState
   pub there : contains_key (world_of host) grant.tenant ≡ true
@@ -51,28 +51,28 @@ pub record IsLimitSet (grant : Grant) : Type 0 where
   pub text : List ℕ
   pub saved : IsTextOfWorld (with_limit (world_of host) grant.tenant grant.limit) text
 
--- why the limit is refused: the tenant is not there, or uses more
+-- why the limit is refused: the tenant does not exist, or uses more
 abbrev pub IsLimitRefused : HostState → Grant → Fault → Type 0
 IsLimitRefused host grant (NotThere tenant) = (tenant ≡ grant.tenant) × (contains_key (world_of host) grant.tenant ≡ false)
 IsLimitRefused host grant (BelowUse tenant used) = (tenant ≡ grant.tenant) × IsUseOf host grant.tenant used × (grant.limit < used)
 IsLimitRefused host grant _ = ⊥
 
--- why it was not set
+-- why the limit was not set
 abbrev pub IsLimitUnset : Grant → Fault → Type 0
 IsLimitUnset grant fault = IsUnrenewed fault ⊎ ((host : HostState) × IsLimitRefused host grant fault)
 
--- a host was saved without this tenant, which was there
+-- a host was saved without this tenant, which existed
 pub record IsTenantRemoved (tenant : List ℕ) : Type 0 where
   pub host : HostState
   pub there : contains_key (world_of host) tenant ≡ true
   pub text : List ℕ
   pub saved : IsTextOfWorld (remove (world_of host) tenant) text
 
--- the tenant is not there
+-- the tenant does not exist
 abbrev pub IsAbsent : HostState → List ℕ → Fault → Type 0
 IsAbsent host tenant (NotThere name) = (name ≡ tenant) × (contains_key (world_of host) tenant ≡ false)
 IsAbsent host tenant _ = ⊥
 
--- why it was not taken out
+-- why the tenant was not removed
 abbrev pub IsNotRemoved : List ℕ → Fault → Type 0
 IsNotRemoved tenant fault = IsUnrenewed fault ⊎ ((host : HostState) × IsAbsent host tenant fault)

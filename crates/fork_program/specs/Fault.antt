@@ -1,4 +1,4 @@
--- The line that tells a fault (own).
+-- The line that reports a fault (own).
 use Rattle.std.specs.Prelude.{ℕ, List, [], ◌∷◌, ◌++◌, codes, decimal}
 use Rattle.hex.specs.Hex.{encode_lower}
 use Rattle.fork_state.specs.declared.fault.LoadFault.{LoadFault}
@@ -13,7 +13,7 @@ use Rattle.loose_store.specs.declared.files.FileFault.TheVariants as file
 use Rattle.fork_program.specs.declared.fault.Fault.{Fault}
 use Rattle.fork_program.specs.declared.fault.Fault.TheVariants.{TooLarge, BadObject, BadFrame, Read, Write, Memory, Store, Socket, NoState, Unreadable, Journal, OtherJournal, NotKept, NotSaved, Line, Lost, Damaged, Unsound, OverLimit, There, TooManyTenants, NotThere, BelowUse}
 
--- what is said of a fault
+-- the words that report a fault
 abbrev pub said_of : Fault → List ℕ
 said_of TooLarge = codes "too-large"
 said_of BadObject = codes "bad-object"
@@ -39,33 +39,33 @@ said_of TooManyTenants = codes "too many tenants"
 said_of (NotThere tenant) = codes "tenant " ++ tenant ++ codes " is not there"
 said_of (BelowUse tenant used) = codes "limit of " ++ tenant ++ codes " is below its use, " ++ decimal used
 
--- the line that says it
+-- the line that reports it
 abbrev pub fault_line : Fault → List ℕ
 fault_line fault = codes "forkhost: " ++ said_of fault ++ 10 ∷ []
 
--- how a session's fault is told
+-- the fault that reports a session's fault
 abbrev pub session_fault : SessionFault → Fault
 session_fault session.Read = Read
 session_fault session.Write = Write
 session_fault session.Memory = Memory
 session_fault session.Journal = NotKept
 
--- how it is told that a folder could not be opened
+-- the fault that reports that a folder could not be opened
 abbrev pub store_fault : FileFault → Fault
 store_fault file.Device = Store
 store_fault file.Memory = Memory
 
--- how it is told that a state could not be read
+-- the fault that reports that a state could not be read
 abbrev pub state_fault : FileFault → Fault
 state_fault file.Device = Unreadable
 state_fault file.Memory = Memory
 
--- how it is told that a journal could not be read
+-- the fault that reports that a journal could not be read
 abbrev pub journal_fault : FileFault → Fault
 journal_fault file.Device = Journal
 journal_fault file.Memory = Memory
 
--- how it is told that what a journal has could not be done again
+-- the fault that reports that the requests of a journal could not be repeated
 abbrev pub again_fault : AgainFault → Fault
 again_fault again.Read = Journal
 again_fault again.Memory = Memory
@@ -75,7 +75,7 @@ again_fault (again.Host host.Store) = Store
 again_fault (again.Host host.Damaged) = Journal
 again_fault (again.Host host.Collision) = Journal
 
--- how it is told that no host could be made of a state
+-- the fault that reports that no host could be loaded from a state
 abbrev pub load_fault : LoadFault → Fault
 load_fault (load.Line line) = Line line
 load_fault (load.Lost name) = Lost name

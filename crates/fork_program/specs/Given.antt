@@ -10,11 +10,11 @@ use Rattle.fork_model.specs.World.{World}
 use Rattle.fork_program.specs.declared.fault.Fault.{Fault}
 use Rattle.fork_program.specs.declared.fault.Fault.TheVariants.{Memory, There, TooManyTenants}
 
--- the world with one tenant more, which sees nothing
+-- the world with one more tenant, which sees nothing
 abbrev pub with_grant : World → Grant → World
 with_grant world grant = insert world grant.tenant (new_view grant.limit)
 
--- the world with these tenants more
+-- the world with these tenants added
 abbrev pub world_with : World → List Grant → World
 world_with world grants = fold with_grant world grants
 
@@ -25,12 +25,12 @@ IsUnadded world grant (There tenant) = (tenant ≡ grant.tenant) × (refusal_to_
 IsUnadded world grant TooManyTenants = refusal_to_add world grant.tenant grant.limit ≡ Some add.TooMany
 IsUnadded world grant _ = ⊥
 
--- nothing is against adding each of them behind those before it
+-- each of them may be added after those before it
 abbrev pub AreFree : World → List Grant → Type 0
 AreFree world grants = (before : List Grant) (grant : Grant) (behind : List Grant) → grants ≡ before ++ grant ∷ behind
     → refusal_to_add (world_with world before) grant.tenant grant.limit ≡ None
 
--- the first that can't be added, and why not
+-- the first that cannot be added, and why not
 pub record IsFirstRefused (world : World) (grants : List Grant) (error : AddError) : Type 0 where
   pub before : List Grant
   pub grant : Grant
@@ -45,7 +45,7 @@ pub record AreGiven (grants : List Grant) (old new : HostState) : Type 0 where
   pub trusted : Trusted old → Trusted new
   pub shows : world_of new ≡ world_with (world_of old) grants
 
--- why they were not
+-- why they were not added
 abbrev pub AreUngiven : World → List Grant → Fault → Type 0
 AreUngiven world grants Memory = ⊤
 AreUngiven world grants (There tenant) = (refused : IsFirstRefused world grants add.There) × (tenant ≡ refused.grant.tenant)

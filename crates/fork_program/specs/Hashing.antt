@@ -1,4 +1,4 @@
--- What `hash-object` does (own): it prints the name of the object that the input is, or tells why there is none.
+-- What `hash-object` does (own): it prints the name of the object whose content is the input, or reports why there is none.
 use Rattle.std.specs.Prelude.{◌≡◌, ℕ, ◌<◌, ◌≤◌, List, [], ◌∷◌, ◌++◌, length, Option, IfSome, ⊤}
 use Rattle.std.specs.Io.KnownBytes.{Appends, Keeps}
 use Rattle.hex.specs.Hex.{encode_lower}
@@ -17,27 +17,27 @@ IsOfKind kind bytes = (value : ObjectValue) × IsObject value kind bytes
 abbrev pub object_line : Kind → List ℕ → List ℕ
 object_line kind bytes = encode_lower (object_name (record { kind = kind; bytes = bytes })) ++ 10 ∷ []
 
--- the input has more than an object may have
+-- the input is longer than an object may be
 abbrev pub IsTooLarge : Option (List ℕ) → Type 0
 IsTooLarge input = IfSome input (λ bytes. MAX_CONTENT < length bytes)
 
--- this is all of the input, and no more than an object may have
+-- this is the whole input, and no longer than an object may be
 pub record IsContent (input : Option (List ℕ)) (content : List ℕ) : Type 0 where
   pub whole : IfSome input (λ bytes. content ≡ bytes)
   pub fits : length content ≤ MAX_CONTENT
 
--- why the input was not read whole
+-- why the input was not read completely
 abbrev pub IsUnread : Option (List ℕ) → Fault → Type 0
 IsUnread input TooLarge = IsTooLarge input
 IsUnread input Read = ⊤
 IsUnread input Memory = ⊤
 IsUnread input _ = ⊥
 
--- the input is an object of the kind, and its name went out
+-- the input is an object of the kind, and its name was printed
 abbrev pub TellsName : Kind → Option (List ℕ) → Option (List ℕ) → Option (List ℕ) → Type 0
 TellsName kind input before after = (content : List ℕ) × IsContent input content × IsOfKind kind content × Appends before after (object_line kind content)
 
--- why no name went out, or not the whole of it
+-- why no name was printed, or only a part of it
 abbrev pub IsUnnamed : Kind → Option (List ℕ) → Option (List ℕ) → Option (List ℕ) → Fault → Type 0
 IsUnnamed kind input before after TooLarge = IsTooLarge input × Keeps before after
 IsUnnamed kind input before after BadObject = (content : List ℕ) × IsContent input content × (¬ IsOfKind kind content) × Keeps before after

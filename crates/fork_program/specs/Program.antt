@@ -1,4 +1,4 @@
--- How the program ends (own), by what `clap` makes of its words: `kinds` are the errors that it finds in them.
+-- How the program ends (own), depending on how `clap` reads its words: `kinds` are the errors that `clap` finds in them.
 use Rattle.std.specs.Prelude.{◌≡◌, ℕ, ◌≤◌, List, [], ◌∷◌, ◌++◌, codes, Option, Result, Ok, Err, ⊤}
 use Rattle.std.specs.Io.KnownBytes.{Appends, Keeps}
 use Rattle.clap.specs.Words.{IsAmong, Kinds, Row, Text, fault_of, subcommand_of}
@@ -28,7 +28,7 @@ status_of (Failed fault) = 1
 status_of (Misused error) = 2
 status_of (BadTenant word) = 2
 
--- what belongs on standard error; of `clap`'s text nothing is said
+-- what belongs on standard error; nothing is claimed of `clap`'s text
 abbrev pub IsTold : Ending → Option (List ℕ) → Option (List ℕ) → Type 0
 IsTold Done before after = Keeps before after
 IsTold (Sound count) before after = Appends before after (again_line count)
@@ -44,7 +44,7 @@ IsToTell (Failed fault) = ⊤
 IsToTell (Misused error) = ⊤
 IsToTell (BadTenant word) = ⊤
 
--- the command, which is no check, was done
+-- the command, which is not a check, was done
 abbrev pub IsDone : Command → Option (List ℕ) → Option (List ℕ) → Option (List ℕ) → Type 0
 IsDone (HashObject kind) input before after = TellsName kind input before after
 IsDone (Run hosting) input before after = IsSessionOf hosting input before after Clean
@@ -71,7 +71,7 @@ IsUndone (AddTenant dir grant) input left before after fault = IsNotAdded grant 
 IsUndone (SetLimit dir grant) input left before after fault = IsLimitUnset grant fault × IsUntouched input left before after
 IsUndone (RemoveTenant dir tenant) input left before after fault = IsNotRemoved tenant fault × IsUntouched input left before after
 
--- a command was done, or a fault came
+-- how a command ended: it was done, or a fault occurred
 abbrev pub ending_of : Result (Unit {0}) Fault → Ending
 ending_of (Ok done) = Done
 ending_of (Err fault) = Failed fault
@@ -87,14 +87,14 @@ IsCarriedOut command input left before after ending = ⊥
 pub data IsChecked (kinds : Kinds) (met : Option (Text × List Row)) (input left before after : Option (List ℕ)) : Type 0 where
   Checked : (command : Command) → kinds ≡ [] → Asks met command → FindsSound command input left before after → IsChecked kinds met input left before after
 
--- all is well
+-- the program succeeded
 pub data IsWell (kinds : Kinds) (met : Option (Text × List Row)) (input left before after : Option (List ℕ)) : Type 0 where
   -- the words ask for a command, and it was done
   Did : (command : Command) → kinds ≡ [] → Asks met command → IsDone command input before after → IsWell kinds met input left before after
   -- they ask for help or for the version, and it was given
   Helped : (kind : ErrorKind) → IsShown kind → IsAmong kind kinds → Keeps input left → (text : List ℕ) → Appends before after text → IsWell kinds met input left before after
 
--- how this fault came
+-- why this fault occurred
 pub data IsFault (kinds : Kinds) (met : Option (Text × List Row)) (input left before after : Option (List ℕ)) (why : Fault) : Type 0 where
   -- the words ask for a command, and it failed
   Undone : (command : Command) → kinds ≡ [] → Asks met command → IsUndone command input left before after why → IsFault kinds met input left before after why
@@ -103,7 +103,7 @@ pub data IsFault (kinds : Kinds) (met : Option (Text × List Row)) (input left b
   -- there was no memory to read the words, or for their help
   Wanting : why ≡ fault.Memory → IsUntouched input left before after → IsFault kinds met input left before after why
 
--- words that end the program so
+-- these words end the program in this way
 abbrev pub Ends : List Text → Option (List ℕ) → Option (List ℕ) → Option (List ℕ) → Option (List ℕ) → Ending → Type 0
 Ends texts input left before after Done = IsWell (fault_of table_app texts) (subcommand_of table_app texts) input left before after
 Ends texts input left before after (Sound count) = IsChecked (fault_of table_app texts) (subcommand_of table_app texts) input left before after
@@ -111,14 +111,14 @@ Ends texts input left before after (Failed fault) = IsFault (fault_of table_app 
 Ends texts input left before after (Misused error) = IsRefused (fault_of table_app texts) (subcommand_of table_app texts) (refusal.Usage error) × IsUntouched input left before after
 Ends texts input left before after (BadTenant word) = IsRefused (fault_of table_app texts) (subcommand_of table_app texts) (refusal.BadTenant word) × IsUntouched input left before after
 
--- the status is that of a right ending, of which something belongs on standard error
+-- the status is that of a right ending, and something belongs on standard error
 pub record IsEndedUntold (texts : List Text) (input left before after : Option (List ℕ)) (status : ℕ) : Type 0 where
   pub how : Ending
   pub right : Ends texts input left before after how
   pub answered : status ≡ status_of how
   pub telling : IsToTell how
 
--- the status is that of a right ending, and what belongs on standard error is there
+-- the status is that of a right ending, and what belongs on standard error was written
 pub record IsEndedAndTold (texts : List Text) (input left before after untold told : Option (List ℕ)) (status : ℕ) : Type 0 where
   pub how : Ending
   pub right : Ends texts input left before after how

@@ -17,11 +17,11 @@ pub record IsNew (host : HostState) : Type 0 where
   pub trusted : Trusted host
   pub shows : world_of host ≡ empty
 
--- the host that the tenants are added to: a new one, where no folder keeps it
+-- the host that the tenants are added to: a new one, if no folder keeps it
 abbrev pub IsBegun : Hosting → HostState → Type 0
 IsBegun hosting host = is_some hosting.dir ≡ false → IsNew host
 
--- a host that has the given tenants, which see nothing yet; where a folder keeps it, its state may have been saved then
+-- a host that has the given tenants, which see nothing yet; if a folder keeps it, its state may have been saved after that
 pub record IsHostOf (hosting : Hosting) (host : HostState) : Type 0 where
   pub begun : HostState
   pub added : HostState
@@ -30,7 +30,7 @@ pub record IsHostOf (hosting : Hosting) (host : HostState) : Type 0 where
   pub unkept : is_some hosting.dir ≡ false → host ≡ added
   pub saved : IsSaved added host
 
--- the same where a folder keeps it
+-- the same, and a folder keeps it
 pub record IsKeptHostOf (hosting : Hosting) (host : HostState) : Type 0 where
   pub kept : is_some hosting.dir ≡ true
   pub of : IsHostOf hosting host
@@ -55,18 +55,18 @@ EndsEarly first last input before after _ = ⊥
 pub data IsUnhosted (hosting : Hosting) (fault : Fault) : Type 0 where
   -- there was no memory for one
   Wanting : fault ≡ Memory → IsUnhosted hosting fault
-  -- the folder is not as it should be
+  -- the host could not be opened in the folder
   Unkept : is_some hosting.dir ≡ true → IsUnkept fault → IsUnhosted hosting fault
   -- a tenant could not be added
   Ungiven : (begun : HostState) → IsBegun hosting begun → AreUngiven (world_of begun) hosting.tenants.items fault → IsUnhosted hosting fault
 
--- why a session was not served up to its input's end, or the host not kept
+-- why a session was not served up to its input's end, or the host was not kept
 pub data IsUnserved (hosting : Hosting) (input left before after : Option (List ℕ)) (fault : Fault) : Type 0 where
   -- there was no host
   Unhosted : IsUnhosted hosting fault → IsUntouched input left before after → IsUnserved hosting input left before after fault
   -- the state could not be saved before the session
   Unready : is_some hosting.dir ≡ true → fault ≡ NotSaved → (first : HostState) → IsHostOf hosting first → IsUntouched input left before after → IsUnserved hosting input left before after fault
-  -- the session was cut short, for want of a journal only where a folder keeps the host
+  -- the session was cut short; a journal is the reason only if a folder keeps the host
   Cut : (first last : HostState) → IsHostOf hosting first → (fault ≡ NotKept → is_some hosting.dir ≡ true) → EndsEarly first last input before after fault → IsUnserved hosting input left before after fault
   -- the session was served, and then the state could not be saved
   Unsaved : is_some hosting.dir ≡ true → fault ≡ NotSaved → IsSessionOf hosting input before after ended.Clean → IsUnserved hosting input left before after fault

@@ -26,12 +26,12 @@ pub record IsVisitThenSaved (old new : HostState) : Type 0 where
   pub visit : IsVisit old left
   pub saved : IsSaved left new
 
--- the host came from the one state to the other by way of these, one after each visit at which a connection paused
+-- the host went from one state to the other through these states, one after each visit at which a connection paused
 abbrev pub Pauses : HostState → List HostState → HostState → Type 0
 Pauses old [] new = old ≡ new
 Pauses old (next ∷ states) new = IsVisitThenSaved old next × Pauses next states new
 
--- what a connection did to the host, or all that were open at once did, round by round
+-- what a connection did to the host, or what all that were open at once did, round by round
 pub record IsConnection (old new : HostState) : Type 0 where
   pub states : List HostState
   pub left : HostState
@@ -44,34 +44,34 @@ pub record IsConnectionThenSaved (old new : HostState) : Type 0 where
   pub connection : IsConnection old left
   pub saved : IsSaved left new
 
--- the host came from the one state to the other by way of these, one after each connection
+-- the host went from one state to the other through these states, one after each connection
 abbrev pub Visits : HostState → List HostState → HostState → Type 0
 Visits old [] new = old ≡ new
 Visits old (next ∷ states) new = IsConnectionThenSaved old next × Visits next states new
 
--- so many connections were served
+-- `n` connections were served
 pub record AreVisits (old new : HostState) (n : ℕ) : Type 0 where
   pub states : List HostState
   pub number : length states ≡ n
   pub chain : Visits old states new
 
--- so many at the most
+-- at most `n` connections were served
 pub record AreSomeVisits (old new : HostState) (n : ℕ) : Type 0 where
   pub states : List HostState
   pub number : length states ≤ n
   pub chain : Visits old states new
 
--- so many connections were served, one after another; or rounds of all that were open at once
+-- `n` connections were served, one after another; or rounds of all that were open at once
 abbrev pub AreServed : Option ℕ → HostState → HostState → ℕ → Type 0
 AreServed None old new n = AreVisits old new n
 AreServed (Some most) old new n = IsConnection old new
 
--- the same of some of them
+-- the same for some of them
 abbrev pub AreSomeServed : Option ℕ → HostState → HostState → ℕ → Type 0
 AreSomeServed None old new n = AreSomeVisits old new n
 AreSomeServed (Some most) old new n = IsConnection old new
 
--- so many connections to such a host were served
+-- `n` connections to such a host were served
 pub record IsListened (hosting : Hosting) (at_once : Option ℕ) (n : ℕ) : Type 0 where
   pub first : HostState
   pub last : HostState
@@ -82,11 +82,11 @@ pub record IsListened (hosting : Hosting) (at_once : Option ℕ) (n : ℕ) : Typ
 abbrev pub IsUnbound : Fault → Type 0
 IsUnbound fault = (fault ≡ Socket) ⊎ (fault ≡ Memory)
 
--- the faults of what keeps a host while it serves
+-- the faults of keeping a host while it serves
 abbrev pub IsLost : Fault → Type 0
 IsLost fault = (fault ≡ NotKept) ⊎ (fault ≡ NotSaved)
 
--- why so many were not, or why the host was not kept
+-- why `n` connections were not served, or why the host was not kept
 pub data IsUnlistened (hosting : Hosting) (at_once : Option ℕ) (n : ℕ) (fault : Fault) : Type 0 where
   -- there was no host
   Unhosted : IsUnhosted hosting fault → IsUnlistened hosting at_once n fault
@@ -94,9 +94,9 @@ pub data IsUnlistened (hosting : Hosting) (at_once : Option ℕ) (n : ℕ) (faul
   Unbound : (first : HostState) → IsHostOf hosting first → IsUnbound fault → IsUnlistened hosting at_once n fault
   -- the state could not be saved before the first connection
   Unready : is_some hosting.dir ≡ true → fault ≡ NotSaved → (first : HostState) → IsHostOf hosting first → IsUnlistened hosting at_once n fault
-  -- what was served could not be kept any more
+  -- what was served could no longer be kept
   Lost : is_some hosting.dir ≡ true → (first last : HostState) → IsHostOf hosting first → AreSomeServed at_once first last n → IsLost fault → IsUnlistened hosting at_once n fault
-  -- it could not be listened on any more
+  -- listening on the socket failed
   Deaf : (first last : HostState) → IsHostOf hosting first → AreSomeServed at_once first last n → IsUnbound fault → IsUnlistened hosting at_once n fault
   -- all were served, and then the state could not be saved
   Unsaved : is_some hosting.dir ≡ true → fault ≡ NotSaved → IsListened hosting at_once n → IsUnlistened hosting at_once n fault
@@ -109,6 +109,6 @@ pub record IsOneRun (old new : HostState) : Type 0 where
   pub explained : Explains (world_of old) (events_of frames) replies (world_of new)
   pub private_run : IsPrivateRun (world_of old) (events_of frames) replies (world_of new)
 
--- a whole serving over a trusted store is one run, whatever the connections, and whatever was saved between
+-- a whole serving over a trusted store is one run, whatever the connections, and whatever was saved in between
 abbrev pub ServingIsOneRun : Type 0
 ServingIsOneRun = (at_once : Option ℕ) (old new : HostState) (n : ℕ) → AreServed at_once old new n → Trusted old → IsOneRun old new

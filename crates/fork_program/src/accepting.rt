@@ -3,14 +3,14 @@ use std::os::unix::net::{UnixListener, UnixStream};
 use std::time::{Clock, Duration};
 use std::{io, thread};
 
-// How long is waited where a connection could not be accepted.
+// How long to wait after a connection could not be accepted, in milliseconds.
 const PAUSE: u64 = 500;
 
-// Errors of accept(2) of which nothing but time, or the end of a connection, is the cure, by errno(3):
-// ENOMEM, ENFILE, EMFILE, ENOBUFS.
+// Errors of accept(2) that only time, or the end of a connection, can cure, by errno(3): ENOMEM, ENFILE,
+// EMFILE, ENOBUFS.
 const FULL: [i32; 4] = [12, 23, 24, 105];
 
-/// Whether accept(2) failed for want of what others may give back.
+/// Whether accept(2) failed for lack of a resource that others may release.
 pub fn is_full(error: &io::Error) -> bool {
     if error.kind() == ErrorKind::OutOfMemory {
         return true;
@@ -21,12 +21,12 @@ pub fn is_full(error: &io::Error) -> bool {
     }
 }
 
-/// Whether it failed for one connection alone, so that the next one may be accepted at once.
+/// Whether accept(2) failed for one connection alone, so that the next one may be accepted at once.
 pub fn is_passing(error: &io::Error) -> bool {
     error.kind() == ErrorKind::ConnectionAborted || error.kind() == ErrorKind::Interrupted
 }
 
-/// The next connection. Where there is no room for one, it is waited for.
+/// Accepts the next connection. If there is no room for one, waits until there is.
 pub fn next_stream<H: Clock>(rt: &H, listener: &UnixListener) -> io::Result<UnixStream> {
     for _ in 0..u64::MAX {
         let error = match listener.accept() {

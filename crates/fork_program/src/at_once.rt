@@ -15,10 +15,10 @@ use std::net::Net;
 use std::os::unix::net::UnixListener;
 use std::time::Clock;
 
-// How much is read at once.
+// How many bytes are read at once.
 const READ: usize = 65536;
 
-// Room for so many bytes.
+// A buffer of `len` bytes.
 fn room(alloc: Global, len: usize) -> Result<Vec<u8>, AllocError>
     ensures { IfOk result (λ room. length room.items ≡ len) }
 {
@@ -46,7 +46,7 @@ fn visit_all<S: LooseFiles, J: Journal>(
     }
 }
 
-// A table over a listener, and room to read through.
+// A table over a listener, and a buffer to read through.
 fn begun<H: Net>(
     rt: &H,
     alloc: Global,
@@ -67,7 +67,7 @@ fn begun<H: Net>(
     Ok((table, buffer))
 }
 
-// Waits until something is to be done.
+// Waits until there is something to do.
 fn attended<H: Clock>(rt: &H, alloc: Global, table: &mut Table) -> Result<(), Fault>
     ensures { IfErr result IsUnbound }
 {
@@ -77,7 +77,7 @@ fn attended<H: Clock>(rt: &H, alloc: Global, table: &mut Table) -> Result<(), Fa
     }
 }
 
-// After a round, whether a connection ended.
+// Tidies the table after a round. Returns whether a connection ended.
 fn tidied<H: Clock>(rt: &H, table: &mut Table) -> Result<bool, Fault>
     ensures { IfErr result IsUnbound }
 {
@@ -87,7 +87,7 @@ fn tidied<H: Clock>(rt: &H, table: &mut Table) -> Result<bool, Fault>
     }
 }
 
-// Rounds until all connections were served.
+// Runs rounds until all connections were served.
 fn rounds<H: Clock, S: LooseFiles>(
     rt: &H,
     host: &mut Host<S>,
@@ -110,8 +110,8 @@ fn rounds<H: Clock, S: LooseFiles>(
     Ok(())
 }
 
-/// Serves this many connections, as many of them at once as may be open. Whatever ends a connection ends
-/// it alone.
+/// Serves this many connections, at most `most` of them at once. Whatever ends a connection ends only that
+/// one.
 pub fn serve_at_once<H: Net + Clock, S: LooseFiles>(
     rt: &H,
     host: &mut Host<S>,
@@ -127,7 +127,7 @@ pub fn serve_at_once<H: Net + Clock, S: LooseFiles>(
     rounds(rt, host, alloc, &mut table, buffer.as_mut_slice())
 }
 
-// Rounds until all connections were served; after one the state may be saved.
+// Runs rounds until all connections were served. The state may be saved after a round.
 fn kept_rounds<H: Files<File = File> + AllocGlobal + Clock, S: LooseFiles>(
     rt: &H,
     host: &mut Host<S>,
@@ -152,8 +152,9 @@ fn kept_rounds<H: Files<File = File> + AllocGlobal + Clock, S: LooseFiles>(
     Ok(())
 }
 
-/// The same, and keeps what they do: the state is saved between two rounds if the journal has grown too
-/// long, or if a connection ended. If anything could not be kept, nothing more is served.
+/// Like `serve_at_once`, but keeps what the connections do: the state is saved between two rounds if the
+/// journal has grown too long, or if a connection ended. If anything could not be kept, nothing more is
+/// served.
 pub fn serve_kept_at_once<H: Files<File = File> + AllocGlobal + Net + Clock, S: LooseFiles>(
     rt: &H,
     host: &mut Host<S>,

@@ -7,7 +7,7 @@ use std::alloc::{AllocError, Global};
 use std::fs::{File, Files};
 use std::io;
 
-// What a start does with its folder before its state is read.
+// What a start does with its folder before it reads the state.
 const OPENING: [(Trial, &'static str); 8] = [
     (Trial::Make, ""),
     (Trial::Make, "/objects"),
@@ -19,10 +19,10 @@ const OPENING: [(Trial, &'static str); 8] = [
     (Trial::LookInEach, "/objects"),
 ];
 
-// What it does with its state.
+// What a start does with the state.
 const LOADING: [(Trial, &'static str); 1] = [(Trial::Read, "/state")];
 
-// Adds the line of a cause to what was told.
+// Appends the line of a cause to `told`.
 fn write_line(
     alloc: Global,
     words: &str,
@@ -37,7 +37,7 @@ fn write_line(
     told.extend_from_slice(line.as_bytes())
 }
 
-// The same, of an error.
+// The same for an error.
 fn write_cause(
     alloc: Global,
     dir: &str,
@@ -54,7 +54,7 @@ fn write_cause(
     }
 }
 
-// Tries these at the folder, one after another, and tells the first that fails.
+// Tries these at the folder, one after another, and reports the first that fails.
 fn tell_first<H: Files<File = File> + AllocGlobal>(
     rt: &H,
     alloc: Global,
@@ -73,7 +73,7 @@ fn tell_first<H: Files<File = File> + AllocGlobal>(
     Ok(())
 }
 
-// The trials that may show the cause of what was told.
+// The trials that may find the cause of the fault in `told`.
 fn trials_for(told: &[u8]) -> Option<&'static [(Trial, &'static str)]>
     ensures { IfSome result (λ _. IsOfFolder told.now) }
 {
@@ -86,8 +86,8 @@ fn trials_for(told: &[u8]) -> Option<&'static [(Trial, &'static str)]>
     None
 }
 
-/// Tells why the folder of the command that the words ask for could not be opened, or its state not be
-/// read, if that is what was told, and if it is so still.
+/// Reports why the folder of the command that the words ask for could not be opened, or its state could not
+/// be read, if `told` is that fault and the cause still exists.
 pub fn tell_cause<H: Files<File = File> + AllocGlobal>(
     rt: &H,
     alloc: Global,

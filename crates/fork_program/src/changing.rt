@@ -30,7 +30,7 @@ fn number_before(text: &[u8]) -> Option<u64>
     decimal(number)
 }
 
-// How it is told that a host fault answered a request.
+// The fault that reports that a host fault answered a request.
 fn of_host(fault: HostFault) -> Fault
     ensures { IsUnkept result }
 {
@@ -40,7 +40,7 @@ fn of_host(fault: HostFault) -> Fault
     }
 }
 
-// What the objects of a tenant that is there use.
+// What the objects of an existing tenant use.
 fn use_of<S: LooseFiles>(
     host: &mut Host<S>,
     alloc: Global,
@@ -49,7 +49,7 @@ fn use_of<S: LooseFiles>(
     ensures told { Trusted host.old → IfOk result (λ used. (view : View) → get (world_of host.old) tenant.now ≡ Some view → used ≡ size view.objects) }
     ensures cause { IfErr result IsUnkept }
 {
-    // Only for its clause: the world is in order.
+    // Called for its clause: the world is in order.
     host.invariant();
     match host.answer(alloc, tenant, Request::Quota) {
         Reply::Done(told) => match number_before(told.as_bytes()) {
@@ -75,7 +75,7 @@ fn drop_upload<S: LooseFiles>(
     }
 }
 
-// Adds a tenant to the host, and saves it.
+// Adds a tenant to the host, and saves the host.
 fn save_added<H: Files<File = File> + AllocGlobal, S: LooseFiles>(
     rt: &H,
     alloc: Global,
@@ -90,7 +90,7 @@ fn save_added<H: Files<File = File> + AllocGlobal, S: LooseFiles>(
     save(rt, alloc, dir, host)
 }
 
-// Saves the host with another limit of a tenant, where what its objects use is not above it.
+// Saves the host with another limit for a tenant, if the tenant's objects use no more than that.
 fn save_with_limit<H: Files<File = File> + AllocGlobal, S: LooseFiles>(
     rt: &H,
     alloc: Global,
@@ -114,7 +114,7 @@ fn save_with_limit<H: Files<File = File> + AllocGlobal, S: LooseFiles>(
     save_as(rt, alloc, dir, host, text)
 }
 
-// Saves the host without a tenant, whose upload ends.
+// Drops a tenant's open upload, and saves the host without the tenant.
 fn save_without_tenant<H: Files<File = File> + AllocGlobal, S: LooseFiles>(
     rt: &H,
     alloc: Global,
@@ -134,9 +134,9 @@ fn save_without_tenant<H: Files<File = File> + AllocGlobal, S: LooseFiles>(
     save_as(rt, alloc, dir, host, text)
 }
 
-/// Adds a tenant to what a folder keeps, with all that its journal has done. A folder without a state is
-/// left as it is, or left out where it is not there. After any other `Err`, and where it is killed, the
-/// folder keeps what it kept, as it was or as it is saved.
+/// Adds a tenant to the host that a folder keeps, and saves the host with all that its journal has. A folder
+/// without a state is left as it is, and one that does not exist is not created. After any other `Err`, and
+/// after a kill, the folder keeps what it kept, as it was or as saved here.
 pub fn add_tenant<H: Files<File = File> + AllocGlobal + RandomSource>(
     rt: &H,
     alloc: Global,
@@ -152,8 +152,8 @@ pub fn add_tenant<H: Files<File = File> + AllocGlobal + RandomSource>(
     saved
 }
 
-/// Gives a tenant of what a folder keeps another limit, which is not below its use. It leaves of the
-/// folder what `add_tenant` does.
+/// Gives another limit, which is not below its use, to a tenant of the host that a folder keeps. An `Err` or
+/// a kill leaves the folder as with `add_tenant`.
 pub fn set_limit<H: Files<File = File> + AllocGlobal + RandomSource>(
     rt: &H,
     alloc: Global,
@@ -169,8 +169,9 @@ pub fn set_limit<H: Files<File = File> + AllocGlobal + RandomSource>(
     saved
 }
 
-/// Takes a tenant out of what a folder keeps, with its repositories, its objects, the offers that it made
-/// and its open upload. Offers that others made to it stay. It leaves of the folder what `add_tenant` does.
+/// Removes a tenant from the host that a folder keeps, with its repositories, its objects, the offers that
+/// it made and its open upload. Offers that others made to it stay. An `Err` or a kill leaves the folder as
+/// with `add_tenant`.
 pub fn remove_tenant<H: Files<File = File> + AllocGlobal + RandomSource>(
     rt: &H,
     alloc: Global,

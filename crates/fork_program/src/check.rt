@@ -10,7 +10,7 @@ use std::fs::{File, Files};
 use std::io::Write;
 use std::random::RandomSource;
 
-// How many requests a start would do again, where all that the folder keeps is right.
+// How many requests a start would repeat, if all that the folder keeps is valid.
 fn replayable<'x, H: Files<File = File> + AllocGlobal + RandomSource>(
     rt: &'x H,
     alloc: Global,
@@ -24,8 +24,8 @@ fn replayable<'x, H: Files<File = File> + AllocGlobal + RandomSource>(
     }
 }
 
-/// Reads all that a folder keeps, prints `sound`, and answers how many requests of the journal a start
-/// would do again. A folder without a state is left as it is, or left out where it is not there.
+/// Reads all that a folder keeps, prints `sound`, and returns how many requests of the journal a start would
+/// repeat. A folder without a state is left as it is, and one that does not exist is not created.
 pub fn check<H: Files<File = File> + AllocGlobal + RandomSource, W: Write>(
     rt: &H,
     alloc: Global,

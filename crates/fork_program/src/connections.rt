@@ -17,12 +17,12 @@ use std::net::Shutdown;
 use std::os::unix::net::{UnixListener, UnixStream};
 use std::time::Clock;
 
-// A connection to a host that a folder keeps pauses before a frame if more than these bytes have come, so that its
-// state can be saved.
+// A connection to a host that a folder keeps pauses before a frame if more than this many bytes have come,
+// so that the host's state can be saved.
 const PAUSE: u64 = 4096;
 
-// Serves the frames of a peer up to its end, or to where it pauses, and says whether it is to go on. A session that
-// could not be kept is told; any other end is the peer's own.
+// Serves the frames of a peer up to its end, or until it pauses, and returns whether it is to go on. A session
+// that could not be kept is reported; any other end concerns the peer alone.
 fn visit<H: Clock, S: LooseFiles, J: Journal>(
     host: &mut Host<S>,
     alloc: Global,
@@ -63,7 +63,7 @@ fn connection<H: Clock, S: LooseFiles>(
     let _shut = stream.shutdown(Shutdown::Write);
 }
 
-// Serves the frames of a peer, and saves the state where it pauses.
+// Serves the frames of a peer. The state may be saved each time it pauses.
 fn visits<H: Files<File = File> + AllocGlobal + Clock, S: LooseFiles>(
     host: &mut Host<S>,
     alloc: Global,
@@ -85,7 +85,7 @@ fn visits<H: Files<File = File> + AllocGlobal + Clock, S: LooseFiles>(
     Ok(())
 }
 
-// The same of a connection, which is then ended.
+// The same for one connection, which is then ended.
 fn kept_connection<H: Files<File = File> + AllocGlobal + Clock, S: LooseFiles>(
     rt: &H,
     host: &mut Host<S>,
@@ -108,7 +108,7 @@ fn kept_connection<H: Files<File = File> + AllocGlobal + Clock, S: LooseFiles>(
     served
 }
 
-/// Serves this many connections, one after another. Whatever ends a connection ends it alone.
+/// Serves this many connections, one after another. Whatever ends a connection ends only that one.
 pub fn serve_connections<H: Clock, S: LooseFiles>(
     rt: &H,
     host: &mut Host<S>,
@@ -131,8 +131,8 @@ pub fn serve_connections<H: Clock, S: LooseFiles>(
     Ok(())
 }
 
-/// Serves this many connections, and keeps what they do: the state is saved after a connection, or within it, if the
-/// journal is long. If anything could not be kept, nothing more is served.
+/// Serves this many connections, and keeps what they do: the state is saved after a connection, or during it,
+/// if the journal is long. If anything could not be kept, nothing more is served.
 pub fn serve_kept_connections<H: Files<File = File> + AllocGlobal + Clock, S: LooseFiles>(
     rt: &H,
     host: &mut Host<S>,

@@ -10,7 +10,7 @@ use std::io::Read;
 
 const CHUNK: usize = 16384;
 
-// Adds what one read gives, and says how many bytes; none only at the end.
+// Appends the bytes of one read, and returns how many there were. It returns 0 only at the end.
 fn read_onto<R: Read>(reader: &mut R, out: &mut Vec<u8>) -> Result<usize, Fault>
     ensures some { IfOk result (λ n. (more : List ℕ) × (length more ≡ n)
         × Consumes (R.remaining reader.old) (R.remaining reader.new) more
@@ -28,8 +28,7 @@ fn read_onto<R: Read>(reader: &mut R, out: &mut Vec<u8>) -> Result<usize, Fault>
     Ok(n)
 }
 
-/// All that a reader gives, where that is no more than an object may have: a longer input is not read
-/// to its end.
+/// Reads the whole input, if it is no longer than an object may be. A longer input is not read to its end.
 pub fn read_content<R: Read>(alloc: Global, reader: &mut R) -> Result<Vec<u8>, Fault>
     ensures ok { IfOk result (λ content. IsContent (R.remaining reader.old) content.items) }
     ensures err { IfErr result (IsUnread (R.remaining reader.old)) }

@@ -13,7 +13,7 @@ use loose_store::{
 use std::alloc::Global;
 use std::fs::{File, Files};
 
-// A state to be saved, its name, and the journal after it, which may begin with the open uploads.
+// A state to be saved, its name, and its journal, which may begin with the open uploads.
 #[derive(Drop)]
 pub(crate) struct Draft {
     pub(crate) state: Vec<u8>,
@@ -22,8 +22,8 @@ pub(crate) struct Draft {
     uploads: u64,
 }
 
-// An empty journal after the state of this name, begun over the state in the folder. What is beside the journal in
-// the folder is removed first, so a kill leaves at most this one beside it.
+// Begins an empty journal for the state `name`, while `standing` is the state in the folder. Whatever is beside
+// the journal of `standing` is removed first, so a kill leaves at most the new journal beside it.
 fn unnamed<H: Files<File = File> + AllocGlobal>(
     rt: &H,
     alloc: Global,
@@ -69,7 +69,7 @@ pub(crate) fn closed<H: Files<File = File> + AllocGlobal, S: LooseFiles>(
     })
 }
 
-// The same, but that the journal begins with the open uploads.
+// The same, but the journal begins with the open uploads.
 pub(crate) fn drafted<H: Files<File = File> + AllocGlobal, S: LooseFiles>(
     rt: &H,
     alloc: Global,
@@ -121,10 +121,10 @@ pub(crate) struct Settled {
     pub(crate) saved: u64,
 }
 
-// Puts a host's drafted state in its place: the object files are synced first, then the journal gets the name
-// of the state that is to come, and then comes the state, unless it is the one that stands there. So at each
-// moment the state that stands there has its journal and its objects, and one step, of the state's name or of
-// the journal's, takes the old ones away.
+// Puts a host's drafted state in its place. The object files are synced first. Then the journal gets the name
+// of the new state. Then the state is written, unless the folder already has it. So at each moment the state in
+// the folder has its journal and its objects. A single rename, of the state or of the journal, replaces the old
+// ones.
 pub(crate) fn put<H: Files<File = File> + AllocGlobal, S: LooseFiles>(
     rt: &H,
     alloc: Global,
@@ -153,7 +153,7 @@ pub(crate) fn put<H: Files<File = File> + AllocGlobal, S: LooseFiles>(
             return Err(Fault::NotSaved);
         };
     }
-    // What is left of older journals, and of what was swept, does no harm. The next saving removes it.
+    // What is left of older journals and of swept objects does no harm. The next save removes it.
     let _cleared = clear_journals(&rt, alloc, dir, name);
     let _forgotten = host.forget_removed(alloc);
     Ok(Settled {

@@ -14,14 +14,13 @@ use std::io::Write;
 pub enum Ending<'a> {
     /// The command was done, or help was given. Status 0.
     Done,
-    /// The folder that was to be checked is sound, and a start would do so many requests of its journal
-    /// again. Status 0.
+    /// The checked folder is sound, and a start would repeat this many requests of its journal. Status 0.
     Sound(u64),
-    /// A fault came. Status 1.
+    /// A fault occurred. Status 1.
     Failed(Fault),
-    /// The words are a faulty command line; the text is `clap`'s. Status 2.
+    /// The command line is not valid; the text is `clap`'s. Status 2.
     Misused(Error),
-    /// This word stands in the place of TENANT=LIMIT and is none. Status 2.
+    /// This word is in the place of TENANT=LIMIT, but is not one. Status 2.
     BadTenant(&'a str),
 }
 
@@ -52,7 +51,7 @@ impl Ending<'_> {
     }
 }
 
-// Writes how many requests a start would do again, where it would do any.
+// Writes how many requests a start would repeat, if any.
 fn write_again<F: Write>(count: u64, faults: &mut F) -> io::Result<()>
     ensures ok { OnOk result (Appends (F.contents faults.old) (F.contents faults.new) (again_line count)) }
     ensures cause { OnErr result (1 ≤ count) }

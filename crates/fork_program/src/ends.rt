@@ -9,23 +9,23 @@ use std::net::Shutdown;
 use std::rc::Rc;
 use std::time::{Duration, Instant};
 
-/// What comes of a peer that is served beside others.
+/// The input from a peer that is served along with others.
 #[derive(Drop)]
 pub struct Incoming {
     stream: Rc<UnixStream>,
 }
 
-/// Where the replies to it go.
+/// The output to such a peer.
 #[derive(Drop)]
 pub struct Outgoing {
     stream: Rc<UnixStream>,
-    /// By this number the system tells that something happened at it.
+    /// The number by which the system reports an event at the connection.
     pub number: usize,
     watch: Cell<Watch>,
     stall: Cell<Stall>,
 }
 
-/// The two ends of a connection that begins.
+/// The two ends of a new connection.
 pub fn ends_of(
     alloc: Global,
     stream: UnixStream,
@@ -65,30 +65,30 @@ impl Write for Outgoing {
 }
 
 impl Outgoing {
-    /// Notes how a turn left the connection.
+    /// Records the state of the connection after a turn.
     pub fn note(&self, now: Instant, frames: u64, waiting: usize, has_begun: bool) {
         self.watch
             .set(self.watch.get().after(now, frames, waiting, has_begun));
         self.stall.set(self.stall.get().after(now, frames, waiting));
     }
 
-    /// The peer has so much longer for what it is doing, since the host did something else.
+    /// Gives the peer this much more time for what it is doing, because the host did something else.
     pub fn put_off(&self, by: Duration) {
         self.watch.set(self.watch.get().put_off(by));
         self.stall.set(self.stall.get().put_off(by));
     }
 
-    /// What is waited for.
+    /// What the connection waits for.
     pub fn watch(&self) -> Watch {
         self.watch.get()
     }
 
-    /// Since when nothing of a reply has been taken.
+    /// Since when the peer has taken nothing of a reply.
     pub fn stall(&self) -> Stall {
         self.stall.get()
     }
 
-    /// Tells the peer that nothing more comes.
+    /// Tells the peer that nothing more will be sent.
     pub fn end(&self) {
         let stream: &UnixStream = self.stream.as_ref();
         let _shut = stream.shutdown(Shutdown::Write);

@@ -20,13 +20,13 @@ use std::net::Net;
 use std::random::RandomSource;
 use std::time::Clock;
 
-/// What belongs on standard error could not be written, or not wholly. The exit status stays what it is.
+/// What belongs on standard error could not be written, or only in part. The exit status is unchanged.
 #[derive(Clone, Copy, Debug, PartialEq, Eq)]
 pub struct Untold {
     pub status: u8,
 }
 
-// A command was done, or a fault came.
+// How a command ended: it was done, or a fault occurred.
 fn done<'a>(did: Result<(), Fault>) -> Ending<'a>
     ensures { result ≡ ending_of did }
 {
@@ -36,7 +36,7 @@ fn done<'a>(did: Result<(), Fault>) -> Ending<'a>
     }
 }
 
-// Carries the command out.
+// Carries out the command.
 fn carried_out<
     'a,
     H: Files<File = File> + Net + AllocGlobal + RandomSource + Clock,
@@ -66,7 +66,7 @@ fn carried_out<
     }
 }
 
-// Gives help, or the version.
+// Prints the help or the version.
 fn help<W: Write>(alloc: Global, error: Error, writer: &mut W) -> Result<(), Fault>
     ensures ok { OnOk result ((text : List ℕ) × Appends (W.contents writer.old) (W.contents writer.new) text) }
     ensures kept { IfErr result (λ why. (why ≡ Fault.Write) ⊎ ((why ≡ Fault.Memory) × Keeps (W.contents writer.old) (W.contents writer.new))) }
@@ -100,8 +100,8 @@ fn ending<'a, H: Files<File = File> + Net + AllocGlobal + RandomSource + Clock, 
     }
 }
 
-/// Does what the words ask for, of which the first is the program's name, tells on `faults` what
-/// belongs on standard error, and answers the exit status.
+/// Does what the words ask for, writes to `faults` what belongs on standard error, and returns the exit
+/// status. The first word is the program's name.
 pub fn program<
     H: Files<File = File> + Net + AllocGlobal + RandomSource + Clock,
     R: Read,

@@ -14,55 +14,54 @@ use std::io::Write;
 pub enum Fault {
     /// The content has more than 8,388,608 bytes.
     TooLarge,
-    /// The content is no object of the kind that was asked for.
+    /// The content is not an object of the requested kind.
     BadObject,
-    /// What came is no frame.
+    /// The input is not a frame.
     BadFrame,
     /// The input could not be read.
     Read,
     /// The output could not be written.
     Write,
-    /// There was no memory.
+    /// Memory ran out.
     Memory,
     /// The folder could not be opened, another process holds it, or its device failed.
     Store,
-    /// The socket could not be bound, another process listens on it, or it could not be listened on
-    /// any more.
+    /// The socket could not be bound, another process listens on it, or listening on it failed.
     Socket,
     /// The folder keeps no state.
     NoState,
     /// The folder's state could not be read.
     Unreadable,
-    /// The folder's journal could not be read, or what it has could not be done again.
+    /// The folder's journal could not be read, or its requests could not be repeated.
     Journal,
-    /// There is a journal of another state than the folder's.
+    /// There is a journal of a state other than the folder's.
     OtherJournal,
     /// A request could not be written to the journal.
     NotKept,
     /// What was served could not be saved.
     NotSaved,
-    /// This line of the state, counted from 1, is the first at which it is no state.
+    /// This line of the state, counted from 1, is the first at which the text is not a state text.
     Line(u64),
-    /// The object is in the state, and its file is not there.
+    /// The object is in the state, but its file does not exist.
     Lost(Name),
     /// The object's file is not whole.
     Damaged(Name),
-    /// The object is not as its tenant's view wants it.
+    /// The object is not as its tenant's view requires.
     Unsound(Name),
-    /// The tenant has objects of more use than its limit.
+    /// The tenant's objects use more than its limit.
     OverLimit(TenantName),
-    /// A tenant is given that is there already.
+    /// A tenant to be added exists already.
     There(TenantName),
     /// There are more than 64 tenants.
     TooManyTenants,
-    /// A tenant is meant that is not there.
+    /// A tenant to be changed or removed does not exist.
     NotThere(TenantName),
-    /// The limit is below what the tenant's objects use, which is told.
+    /// The limit is below what the tenant's objects use, which is the second field.
     BelowUse(TenantName, u64),
 }
 
 impl Fault {
-    /// Writes the one line that tells the fault.
+    /// Writes the one line that reports the fault.
     pub fn write<W: Write>(&self, writer: &mut W) -> io::Result<()>
         ensures { OnOk result (Appends (W.contents writer.old) (W.contents writer.new) (fault_line self.now)) }
     {
@@ -72,7 +71,7 @@ impl Fault {
         Ok(())
     }
 
-    // Writes what is said of the fault.
+    // Writes the words that report the fault.
     fn write_words<W: Write>(&self, writer: &mut W) -> io::Result<()>
         ensures { OnOk result (Appends (W.contents writer.old) (W.contents writer.new) (said_of self.now)) }
     {
@@ -104,7 +103,7 @@ impl Fault {
     }
 }
 
-// Writes words, and others behind them.
+// Writes words, and others after them.
 fn write_both<W: Write>(before: &[u8], behind: &[u8], writer: &mut W) -> io::Result<()>
     ensures { OnOk result (Appends (W.contents writer.old) (W.contents writer.new) (before.now ++ behind.now)) }
 {
@@ -113,7 +112,7 @@ fn write_both<W: Write>(before: &[u8], behind: &[u8], writer: &mut W) -> io::Res
     Ok(())
 }
 
-// Writes words, and the name of an object behind them.
+// Writes words, and the name of an object after them.
 fn write_name<W: Write>(before: &[u8], name: &Name, writer: &mut W) -> io::Result<()>
     ensures { OnOk result (Appends (W.contents writer.old) (W.contents writer.new) (before.now ++ encode_lower name.now)) }
 {
@@ -122,7 +121,7 @@ fn write_name<W: Write>(before: &[u8], name: &Name, writer: &mut W) -> io::Resul
     write_both(before, digits.as_slice(), writer)
 }
 
-// Writes what is said of this tenant.
+// Writes words about this tenant.
 fn write_tenant<W: Write>(tenant: &TenantName, said: &[u8], writer: &mut W) -> io::Result<()>
     ensures { OnOk result (Appends (W.contents writer.old) (W.contents writer.new) (codes "tenant " ++ tenant.now ++ said.now)) }
 {

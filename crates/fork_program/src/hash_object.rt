@@ -31,7 +31,7 @@ fn line_of(kind: Kind, bytes: &[u8]) -> [u8; 65]
     line
 }
 
-/// Prints the name of the object of this kind that the input is, and LF.
+/// Prints the name of the object of this kind whose content is the input, and LF.
 pub fn hash_object<R: Read, W: Write>(
     alloc: Global,
     kind: Kind,

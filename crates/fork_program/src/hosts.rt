@@ -31,7 +31,7 @@ pub(crate) fn host_in_memory<H: RandomSource>(
     }
 }
 
-/// The host that a folder keeps, with the given tenants too, and the name of the state's journal.
+/// The host that a folder keeps, with the given tenants added, and the name of the state's journal.
 pub(crate) fn host_in_folder<'a, H: Files<File = File> + AllocGlobal + RandomSource>(
     rt: &'a H,
     alloc: Global,

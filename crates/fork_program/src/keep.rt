@@ -11,10 +11,10 @@ use loose_store::{FileFault, LooseFiles};
 use std::alloc::Global;
 use std::fs::{File, Files};
 
-// A journal may always grow by so many bytes.
+// A journal may always grow by this many bytes.
 const SPARE: u64 = 1_048_576;
 
-// The requests of a journal may visit so many objects: about a second of work.
+// How many objects the requests of a journal may visit: about a second of work.
 const MOST_VISITED: u64 = 16_777_216;
 
 /// A folder that keeps a host: its state as it was last saved, and the journal of what was done since.
@@ -25,13 +25,13 @@ pub struct Keep<'a, H> {
     pub(crate) journal: Written<LogWriter<File>>,
     // The journal's name, which is that of the state in the folder.
     name: Name,
-    // How many bytes that state has, and the uploads at the journal's beginning.
+    // How many bytes that state and the uploads at the start of the journal have.
     saved: u64,
     // Whether its journals are synced.
     syncs: bool,
 }
 
-// Syncs some object files before the next saving does, if there are many.
+// Syncs some object files before the next save does, if there are many.
 fn sync_ahead<S: LooseFiles>(alloc: Global, host: &mut Host<S>) -> Result<(), Fault>
     ensures cause { IfErr result (λ fault. fault ≡ Fault.NotSaved) }
     ensures host { host.new ≡ host.old }
@@ -42,7 +42,7 @@ fn sync_ahead<S: LooseFiles>(alloc: Global, host: &mut Host<S>) -> Result<(), Fa
     }
 }
 
-// A tenant has an upload open, or there is no memory to tell.
+// Whether a tenant has an open upload. It is also true if there is no memory to find out.
 fn is_uploading<S: LooseFiles>(alloc: Global, host: &Host<S>) -> bool {
     match host.uploading(alloc) {
         Ok(names) => !names.is_empty(),
@@ -51,8 +51,8 @@ fn is_uploading<S: LooseFiles>(alloc: Global, host: &Host<S>) -> bool {
 }
 
 impl<'a, H: Files<File = File> + AllocGlobal> Keep<'a, H> {
-    /// Saves the host's state in its folder, where the state of this name stands, and begins a journal after
-    /// it. After an `Err` the folder has its old state or this one, and what belongs to it.
+    /// Saves the host's state in its folder, which has the state `standing`, and begins a journal after it.
+    /// After an `Err` the folder has its old state or the new one, and what belongs to that state.
     pub fn begin<S: LooseFiles>(
         rt: &'a H,
         alloc: Global,
@@ -71,7 +71,7 @@ impl<'a, H: Files<File = File> + AllocGlobal> Keep<'a, H> {
         }
     }
 
-    // The folder with a host's drafted state in its place.
+    // Puts a host's drafted state in its folder, which then keeps the host.
     fn over<S: LooseFiles>(
         rt: &'a H,
         alloc: Global,
@@ -103,9 +103,9 @@ impl<'a, H: Files<File = File> + AllocGlobal> Keep<'a, H> {
         })
     }
 
-    /// Saves the host's state at the end of serving, with an empty journal, so no open upload outlives it, and
-    /// makes sweeps final. If serving ended because the folder could not be written, the folder stays as it is,
-    /// as after a kill. After an `Err` the folder has what it had, or this state.
+    /// Saves the host's state at the end of serving, with an empty journal, and makes sweeps final. So no open
+    /// upload survives the end. If serving ended because the folder could not be written, the folder is left as
+    /// it is, as after a kill. After an `Err` the folder has what it had, or the new state.
     pub fn end<S: LooseFiles>(
         &self,
         alloc: Global,
@@ -135,9 +135,9 @@ impl<'a, H: Files<File = File> + AllocGlobal> Keep<'a, H> {
             || self.journal.visits().saturating_mul(host.census()) > MOST_VISITED
     }
 
-    /// Saves the host's state if the journal is long, or if anything was swept. If it cannot be drafted, because
-    /// an upload's object cannot be read, or if there are no descriptors to sync object files, the journal goes on
-    /// after the old state. After an `Err` nothing more may be kept.
+    /// Saves the host's state if the journal is long, or if anything was swept. The old state stays and its
+    /// journal goes on if the new one cannot be drafted because an upload's object cannot be read, or if there
+    /// are no descriptors to sync object files. After an `Err` nothing more may be kept.
     pub fn settle<S: LooseFiles>(&mut self, alloc: Global, host: &mut Host<S>) -> Result<(), Fault>
         ensures cause { IfErr result (λ fault. fault ≡ Fault.NotSaved) }
         ensures syncs { (self.old.journal.syncs ≡ self.old.syncs) → (self.new.journal.syncs ≡ self.old.syncs) × (self.new.syncs ≡ self.old.syncs) }
@@ -175,7 +175,7 @@ impl<'a, H: Files<File = File> + AllocGlobal> Keep<'a, H> {
         }
     }
 
-    /// The same after a round of many connections: what was swept counts only if one of them ended.
+    /// Like `settle`, after a round of many connections: what was swept counts only if one of them ended.
     pub fn settle_after<S: LooseFiles>(
         &mut self,
         alloc: Global,

@@ -22,7 +22,7 @@ fn new_host<S: LooseFiles + Drop>(alloc: Global, files: S) -> Result<Host<S>, Fa
     }
 }
 
-// The host of a state, over the store that has its objects, and the name of the journal behind it.
+// The host of a state, over the store that has its objects, and the name of the state's journal.
 fn saved_host<S: LooseFiles + Drop>(
     alloc: Global,
     state: Option<Vec<u8>>,
@@ -42,7 +42,7 @@ fn saved_host<S: LooseFiles + Drop>(
     }
 }
 
-// No journal of another state lies beside that of the state of this name, but what a kill leaves.
+// Checks that the folder has no journal of a state other than this one, except what a kill leaves.
 fn has_no_other<H: Files<File = File> + AllocGlobal>(
     rt: &H,
     alloc: Global,
@@ -58,8 +58,8 @@ fn has_no_other<H: Files<File = File> + AllocGlobal>(
     }
 }
 
-// The host that a folder keeps, over this store of its objects, and one without tenants where the
-// folder keeps none; the name of the state's journal; and how many of its requests were done again.
+// The host that a folder keeps, over this store of its objects, the name of the state's journal, and how
+// many of its requests were repeated. If the folder keeps no host, it is one without tenants.
 fn restored_host<H: Files<File = File> + AllocGlobal, S: LooseFiles + Drop>(
     rt: &H,
     alloc: Global,
@@ -80,7 +80,7 @@ fn restored_host<H: Files<File = File> + AllocGlobal, S: LooseFiles + Drop>(
     }
 }
 
-// The same, over the folder itself. The folder is made where it is not there, and while the host lives no
+// The same, over the folder itself. The folder is created if it does not exist. While the host lives, no
 // other process can open it.
 fn opened_host<'a, H: Files<File = File> + AllocGlobal + RandomSource>(
     rt: &'a H,
@@ -99,8 +99,8 @@ fn opened_host<'a, H: Files<File = File> + AllocGlobal + RandomSource>(
     }
 }
 
-/// The host that a folder keeps, and one without tenants where the folder keeps none; and the name of the
-/// state's journal. The folder is made where it is not there, and while the host lives no other process can
+/// The host that a folder keeps, and the name of the state's journal. If the folder keeps no host, it is one
+/// without tenants. The folder is created if it does not exist. While the host lives, no other process can
 /// open it.
 pub fn kept_host<'a, H: Files<File = File> + AllocGlobal + RandomSource>(
     rt: &'a H,
@@ -115,9 +115,9 @@ pub fn kept_host<'a, H: Files<File = File> + AllocGlobal + RandomSource>(
     }
 }
 
-/// The host that a folder keeps, and how many requests of its journal were done again. A folder without a
-/// state is left as it is, or left out where it is not there; and while the host lives no other process
-/// can open it.
+/// The host that a folder keeps, and how many requests of its journal were repeated. A folder without a
+/// state is left as it is, and one that does not exist is not created. While the host lives, no other
+/// process can open the folder.
 pub fn standing_host<'a, H: Files<File = File> + AllocGlobal + RandomSource>(
     rt: &'a H,
     alloc: Global,

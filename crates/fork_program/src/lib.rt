@@ -1,7 +1,7 @@
 //! What `forkhost` does for the words that it is given, over any reader and writers: it names objects,
 //! serves a session or connections to a socket, and checks, upgrades or changes the folder that keeps a
 //! host.
-//! How each command ends, and what it wrote till then, is said of `program`.
+//! The contract of `program` says how each command ends, and what it has written by then.
 #![tactic(auto)]
 
 mod accepting;

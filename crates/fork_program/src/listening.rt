@@ -14,24 +14,24 @@ use std::{fs, io};
 #[derive(Drop)]
 pub struct Listening {
     listener: UnixListener,
-    // The folder in which the socket was made; its lock keeps other processes away.
+    // The folder in which the socket was created; its lock keeps other processes away.
     room: File,
 }
 
 impl Listening {
-    /// What connections are accepted from.
+    /// The listener that connections are accepted from.
     pub fn listener(&self) -> &UnixListener {
         &self.listener
     }
 
-    /// The same, and what keeps other processes away while it lives.
+    /// The listener, and the locked folder, which keeps other processes away while it lives.
     pub fn into_parts(self) -> (UnixListener, File) {
         let Listening { listener, room } = self;
         (listener, room)
     }
 }
 
-// Nothing stands at the path, or a socket that nobody listens on.
+// Whether there is nothing at the path, or only a socket that nobody listens on.
 fn is_free<H: Files + Net>(rt: &H, path: &str) -> io::Result<bool> {
     let there = match fs::symlink_metadata(rt, path) {
         Ok(there) => there,
@@ -56,8 +56,8 @@ fn is_free<H: Files + Net>(rt: &H, path: &str) -> io::Result<bool> {
     }
 }
 
-// Whether this process's user has it. Where no `/proc` says who that is, the kernel does: nobody but
-// root may change the mode of what another one has.
+// Whether this process's user owns it. If there is no `/proc` to say who that user is, the kernel decides:
+// only root may change the mode of a file that another user owns.
 fn is_own<H: Files>(rt: &H, there: &Metadata) -> bool {
     match fs::metadata(rt, "/proc/self") {
         Ok(process) => there.uid() == process.uid(),
@@ -65,7 +65,7 @@ fn is_own<H: Files>(rt: &H, there: &Metadata) -> bool {
     }
 }
 
-// Opens the folder of this name, which is there and is this user's own; no link is followed.
+// Opens the folder of this name, which must exist and belong to this user. No link is followed.
 fn own_folder<H: Files<File = File>>(rt: &H, room: &str) -> io::Result<File> {
     let there = fs::symlink_metadata(rt, room)?;
     if !there.is_dir() || !is_own(rt, &there) {
@@ -79,7 +79,7 @@ fn own_folder<H: Files<File = File>>(rt: &H, room: &str) -> io::Result<File> {
     Ok(folder)
 }
 
-// Takes away the socket that a process left in the folder. Anything else is left as it is.
+// Removes the socket that a process left in the folder. Anything else is left as it is.
 fn clear<H: Files>(rt: &H, inside: &str) -> io::Result<()> {
     let left = match fs::symlink_metadata(rt, inside) {
         Ok(left) => left,
@@ -96,7 +96,7 @@ fn clear<H: Files>(rt: &H, inside: &str) -> io::Result<()> {
     fs::remove_file(rt, inside)
 }
 
-// The folder that this user alone may enter and this process alone uses; no socket is in it.
+// The folder that only this user may enter and only this process uses. It has no socket in it.
 fn private_room<H: Files<File = File>>(rt: &H, room: &str, inside: &str) -> io::Result<File> {
     if let Err(error) = DirBuilder::new().mode(0o700).create(rt, room) {
         if error.kind() != ErrorKind::AlreadyExists {
@@ -112,15 +112,15 @@ fn private_room<H: Files<File = File>>(rt: &H, room: &str, inside: &str) -> io::
     Ok(folder)
 }
 
-// A socket is made with the mode that the process allows, so it is made where nobody else comes, and has
-// its own mode before it has its place.
+// A socket is created with the mode that the process allows. So it is created where nobody else may enter,
+// and gets its own mode before it is moved to its path.
 fn bound_at<H: Files + Net>(rt: &H, inside: &str) -> io::Result<UnixListener> {
     let listener = UnixListener::bind(rt, inside)?;
     fs::set_permissions(rt, inside, Permissions::from_mode(0o600))?;
     Ok(listener)
 }
 
-// Binds a socket for this path, while this process alone uses the folder in which it is made.
+// Binds a socket for this path. Only this process uses the folder in which the socket is created.
 fn bound_in<H: Files<File = File> + Net>(
     rt: &H,
     room: &str,
@@ -138,7 +138,7 @@ fn bound_in<H: Files<File = File> + Net>(
     })
 }
 
-// Where the socket of a path is made.
+// Where the socket for a path is created.
 fn inside_of(alloc: Global, path: &str) -> Result<String, AllocError> {
     format!(in alloc; "{path}.lock/s")
 }
@@ -149,7 +149,7 @@ fn bound<H: Files<File = File> + Net>(rt: &H, alloc: Global, path: &str) -> io::
     bound_in(rt, room.as_str(), inside.as_str(), path)
 }
 
-// Gives the socket its place, where that is free still.
+// Moves the socket to its path, if the path is still free.
 fn placed<H: Files + Net>(rt: &H, alloc: Global, path: &str) -> io::Result<()> {
     let inside = inside_of(alloc, path)?;
     if !is_free(rt, path)? {
@@ -158,7 +158,7 @@ fn placed<H: Files + Net>(rt: &H, alloc: Global, path: &str) -> io::Result<()> {
     fs::rename(rt, inside.as_str(), path)
 }
 
-/// How a fault of a socket is told.
+/// The fault that reports an error of a socket.
 pub fn of_socket(error: io::Error) -> Fault
     ensures { IsUnbound result }
 {
@@ -168,9 +168,8 @@ pub fn of_socket(error: io::Error) -> Fault
     Fault::Socket
 }
 
-/// Binds a socket for this path and for this user alone. Nobody can connect before it has its place
-/// there (`show`). A socket that nobody listens on will be replaced, and anything else that stands there is
-/// left as it is.
+/// Binds a socket for this path and for this user alone. Nobody can connect before `show` moves it to the
+/// path. A socket at the path that nobody listens on will be replaced. Anything else there is left as it is.
 pub fn listen<H: Files<File = File> + Net>(
     rt: &H,
     alloc: Global,
@@ -184,7 +183,7 @@ pub fn listen<H: Files<File = File> + Net>(
     }
 }
 
-/// Gives a socket that was bound for this path its place: from here on whoever may connect is served.
+/// Moves a socket that was bound for this path to it. From then on, whoever may connect is served.
 pub fn show<H: Files<File = File> + Net>(rt: &H, alloc: Global, path: &str) -> Result<(), Fault>
     ensures { IfErr result IsUnbound }
 {

@@ -9,32 +9,32 @@ use std::io::{BufReader, ErrorKind, Read, Write};
 use std::os::unix::net::UnixStream;
 use std::time::{Clock, Duration, Instant};
 
-// How many seconds a peer has to send a frame, once it began it, and to take a whole reply.
+// How many seconds a peer has to send a frame that it began, and to take a whole reply.
 const PATIENCE: u64 = 30;
 
-// So many bytes at the most are written in one call: the kernel waits anew for each piece of what it is
-// given, and of so few it makes one piece.
+// The most bytes that are written in one call. The kernel waits again for each piece of what it is given, and
+// makes one piece of so few bytes.
 const PIECE: usize = 16384;
 
-// What is waited for.
+// What a connection waits for.
 #[derive(Clone, Copy)]
 enum Awaited {
-    // The first byte of a frame, without end.
+    // The first byte of a frame, without a deadline.
     Beginning,
-    // The rest of it, until then.
+    // The rest of the frame, until this deadline.
     Rest(Instant),
-    // That a reply is taken, until then.
+    // The peer to take a reply, until this deadline.
     Taking(Instant),
 }
 
-// When what begins now has to have ended.
+// The deadline for what begins now.
 pub(crate) fn end_of(now: Instant) -> Option<Instant>
     ensures { IfSome result (λ end. instant_nanos end ≡ instant_nanos now + 30000000000) }
 {
     now.checked_add(Duration::from_secs(PATIENCE))
 }
 
-// How long is left until then, where anything is.
+// How much time is left until `end`, if any.
 pub(crate) fn left_until(end: Instant, now: Instant) -> Option<Duration>
     ensures left { IfSome result (λ left. as_nanos left ≡ instant_nanos end - instant_nanos now) }
     ensures some { IfSome result (λ left. 1 ≤ as_nanos left) }
@@ -47,20 +47,20 @@ pub(crate) fn left_until(end: Instant, now: Instant) -> Option<Duration>
     Some(left)
 }
 
-/// A connection, of which each wait ends with the time that its peer has.
+/// A connection on which each wait ends when the peer's time is over.
 #[derive(Drop)]
 pub struct Peer<'a, H> {
     clock: &'a H,
     stream: &'a UnixStream,
     awaited: Cell<Awaited>,
-    // More bytes than these come only after a pause before a frame.
+    // If more bytes than this have come, the connection pauses before the next frame.
     most: u64,
-    // How many have come since the last one.
+    // How many bytes have come since the last pause.
     came: Cell<u64>,
 }
 
 impl<'a, H: Clock> Peer<'a, H> {
-    /// Of this one nothing has come yet. It pauses before a frame if more than these bytes have come.
+    /// A connection on which nothing has come yet. It pauses before a frame if more than `most` bytes have come.
     pub fn new(clock: &'a H, stream: &'a UnixStream, most: u64) -> Peer<'a, H> {
         Peer {
             clock,
@@ -71,7 +71,7 @@ impl<'a, H: Clock> Peer<'a, H> {
         }
     }
 
-    // A frame is to begin, and what came before it is enough for a pause.
+    // Whether the next frame has not begun, and enough bytes have come before it for a pause.
     fn is_due(&self) -> bool {
         match self.awaited.get() {
             Awaited::Beginning => self.came.get() > self.most,
@@ -79,7 +79,7 @@ impl<'a, H: Clock> Peer<'a, H> {
         }
     }
 
-    /// Whether it paused, and is to go on.
+    /// Whether the connection paused, and so is to go on.
     pub fn goes_on(&self) -> bool {
         let due = self.is_due();
         if due {
@@ -102,7 +102,7 @@ impl<'a, H: Clock> Peer<'a, H> {
         }
     }
 
-    // Something of a frame is there.
+    // Notes that part of a frame has come.
     fn begin(&self) -> io::Result<()> {
         match self.awaited.get() {
             Awaited::Rest(_) => Ok(()),
@@ -113,7 +113,7 @@ impl<'a, H: Clock> Peer<'a, H> {
         }
     }
 
-    // Until when the reply has to be taken that is written.
+    // The deadline for the peer to take the reply that is being written.
     fn taking(&self) -> io::Result<Instant> {
         match self.awaited.get() {
             Awaited::Taking(end) => Ok(end),
@@ -126,7 +126,7 @@ impl<'a, H: Clock> Peer<'a, H> {
     }
 }
 
-// What comes of a peer.
+// The input from a peer.
 #[derive(Drop)]
 struct Coming<'a, H> {
     peer: &'a Peer<'a, H>,
@@ -151,7 +151,7 @@ impl<H: Clock> Read for Coming<'_, H> {
     }
 }
 
-/// The frames of a peer. Where it pauses, no more come.
+/// The frames of a peer. At a pause, they end.
 #[derive(Drop)]
 pub struct Frames<'a, H: Clock> {
     peer: &'a Peer<'a, H>,
@@ -159,7 +159,7 @@ pub struct Frames<'a, H: Clock> {
 }
 
 impl<'a, H: Clock> Frames<'a, H> {
-    /// Reads from this one.
+    /// Reads from this peer.
     pub fn new(alloc: Global, peer: &'a Peer<'a, H>) -> io::Result<Frames<'a, H>> {
         let coming = BufReader::new(alloc, Coming { peer })?;
         Ok(Frames { peer, coming })
@@ -178,14 +178,14 @@ impl<H: Clock> Read for Frames<'_, H> {
     }
 }
 
-/// Where the replies to a peer go. One is taken wholly once it is flushed.
+/// The replies to a peer. A reply has been taken completely when it is flushed.
 #[derive(Drop)]
 pub struct Replies<'a, H> {
     peer: &'a Peer<'a, H>,
 }
 
 impl<'a, H: Clock> Replies<'a, H> {
-    /// Writes to this one.
+    /// Writes to this peer.
     pub fn new(peer: &'a Peer<'a, H>) -> Replies<'a, H> {
         Replies { peer }
     }

@@ -2,13 +2,13 @@ use crate::ends::{Incoming, Outgoing};
 use fork_connection::Party;
 use std::time::Instant;
 
-/// While more than so many bytes wait to go out in all, no frame is taken.
+/// While more than this many bytes in total wait to be sent, no frame is taken.
 pub const MOST_WAITING: usize = 67_108_864;
 
-/// A connection over a socket, served beside others.
+/// A connection over a socket, served along with others.
 pub type Peer = Party<Incoming, Outgoing>;
 
-/// Whether too much waits to go out to them.
+/// Whether too much waits to be sent to the peers.
 pub fn are_full(peers: &[Peer]) -> bool {
     let mut waiting: usize = 0;
     for peer in peers.iter() {
@@ -17,7 +17,7 @@ pub fn are_full(peers: &[Peer]) -> bool {
     waiting > MOST_WAITING
 }
 
-/// Whether a turn may do something at one of them. One that may ask for more has none while too much waits.
+/// Whether a turn may do something for a peer. While too much waits, a peer for which nothing waits has none.
 pub fn has_turn(peer: &Peer, is_full: bool) -> bool {
     if !peer.is_busy() {
         return false;
@@ -25,13 +25,13 @@ pub fn has_turn(peer: &Peer, is_full: bool) -> bool {
     !is_full || peer.waiting() > 0
 }
 
-/// Whether nothing is asked at one of them, as far as is known.
+/// Whether a peer asks nothing, as far as is known.
 pub fn is_idle(peer: &Peer) -> bool {
     !peer.is_busy() && peer.writer().watch().idle_since().is_some()
 }
 
-// Whether its time is over. One that takes nothing of its reply has less while too much waits, since it
-// holds up all others.
+// Whether a peer's time is over. A peer that takes nothing of its reply has less time while too much waits,
+// because it holds up all others.
 fn is_late(peer: &Peer, now: Instant, is_full: bool) -> bool {
     let end = peer.writer();
     if is_full && end.stall().is_over(now) {
@@ -40,8 +40,8 @@ fn is_late(peer: &Peer, now: Instant, is_full: bool) -> bool {
     end.watch().is_over(now)
 }
 
-/// Notes how a round left it, and tells whether it stays. No time runs for a frame that is not taken as too
-/// much waits.
+/// Records the state of a peer after a round, and returns whether it stays. No time runs for a frame that is
+/// not taken because too much waits.
 pub fn stays(peer: &Peer, now: Instant, is_full: bool) -> bool {
     let end = peer.writer();
     let is_awaited = peer.has_begun() && !(is_full && peer.is_busy());

@@ -12,8 +12,8 @@ use std::alloc::Global;
 use std::fs::{File, Files};
 use std::io::BufReader;
 
-/// Does again what the journal of this name has, up to its end or to where it was cut, and says how many
-/// requests that were. What was altered is told.
+/// Repeats the requests of the journal of this name, up to its end or to where it was cut, and returns how
+/// many there were. An alteration is reported.
 pub fn replay<H: Files<File = File>, S: LooseFiles>(
     rt: &H,
     alloc: Global,
@@ -30,7 +30,7 @@ pub fn replay<H: Files<File = File>, S: LooseFiles>(
     }
 }
 
-// Does again what the log in this file has.
+// Repeats the requests of the log in this file.
 fn repeat<S: LooseFiles>(
     alloc: Global,
     file: File,
@@ -46,14 +46,14 @@ fn repeat<S: LooseFiles>(
         return Err(Fault::Memory);
     };
     match serve_again(host, alloc, &mut log) {
-        // What is no frame, and has more after it, was not cut.
+        // If more follows what is not a frame, the log was not cut there.
         Ok(_) if log.ended().is_none() => Err(Fault::Journal),
         Ok(count) => Ok(count),
         Err(fault) => Err(of_again(fault)),
     }
 }
 
-// Does again what the journal of this name has in the form before, which is frames alone.
+// Repeats the requests of the journal of this name in the previous format, which is only frames.
 fn replay_old<H: Files<File = File>, S: LooseFiles>(
     rt: &H,
     alloc: Global,

@@ -7,12 +7,12 @@ use std::fs;
 use std::fs::Files;
 use std::os::unix::fs::PermissionsExt;
 
-// What a group or others may do.
+// The permission bits of the group and of others.
 const OTHERS: u32 = 0o077;
-// All that a mode says of who may do what.
+// All permission bits of a mode.
 const MODE: u32 = 0o7777;
 
-// The mode of a folder that is there, if it lets others do something.
+// The mode of an existing folder, if it lets others do anything.
 fn open_mode(rt: &impl Files, dir: &str) -> Option<u32>
     ensures { IfSome result (λ mode. bit_and mode 63 ≢ 0) }
 {
@@ -26,7 +26,7 @@ fn open_mode(rt: &impl Files, dir: &str) -> Option<u32>
     Some(mode)
 }
 
-// Adds the line of a folder that is open to others to what was told.
+// Appends the line for a folder that is open to others to `told`.
 fn write_open(alloc: Global, dir: &str, mode: u32, told: &mut Vec<u8>) -> Result<(), AllocError>
     ensures ok { OnOk result (told.new.items ≡ told.old.items ++ open_line dir.now mode) }
     ensures err { OnErr result (told.new.items ≡ told.old.items) }
@@ -35,7 +35,7 @@ fn write_open(alloc: Global, dir: &str, mode: u32, told: &mut Vec<u8>) -> Result
     told.extend_from_slice(line.as_bytes())
 }
 
-/// Tells whether the folder of the host that the words ask to start is open to others.
+/// Reports if the folder of the host that the words ask to start is open to others.
 pub fn tell_rights<H: Files>(
     rt: &H,
     alloc: Global,

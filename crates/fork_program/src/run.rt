@@ -40,8 +40,8 @@ fn session<S: LooseFiles, J: Journal, R: Read, W: Write>(
     }
 }
 
-// Serves one session of a host that a folder keeps. Its state is saved before and behind it, however the
-// session ended, and each request is kept before its reply goes out.
+// Serves one session of a host that a folder keeps. The host's state is saved before and after the session,
+// however that ended. Each request is kept before its reply is sent.
 fn keep_session<'x, H: Files<File = File> + AllocGlobal, S: LooseFiles, R: Read, W: Write>(
     rt: &'x H,
     alloc: Global,
@@ -103,9 +103,9 @@ fn run_in_folder<'x, H: Files<File = File> + AllocGlobal + RandomSource, R: Read
     keep_session(rt, alloc, dir, standing, &mut host, reader, writer, syncs)
 }
 
-/// Serves one session of the host that has these tenants too. What was served is saved where a folder
-/// keeps the host, also after a fault of the session, but for open uploads, which end with it; where the
-/// folder could not be written, it keeps all that was answered, open uploads too.
+/// Serves one session of the host with these tenants added. If a folder keeps the host, what was served is
+/// saved, even after a fault of the session. Open uploads are not saved: they end with the session. If the
+/// folder could not be written, it keeps all that was answered, including open uploads.
 pub fn run<H: Files<File = File> + AllocGlobal + RandomSource, R: Read, W: Write>(
     rt: &H,
     alloc: Global,

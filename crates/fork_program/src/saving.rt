@@ -10,7 +10,7 @@ use std::alloc::Global;
 use std::fs::{File, Files};
 
 /// Saves the host's state in its folder, replacing the one there, with a journal of its open uploads. After an
-/// `Err` the folder has its old state or this one, and what belongs to it.
+/// `Err` the folder has its old state or the new one, and what belongs to that state.
 pub fn save<H: Files<File = File> + AllocGlobal, S: LooseFiles>(
     rt: &H,
     alloc: Global,
@@ -29,7 +29,7 @@ pub fn save<H: Files<File = File> + AllocGlobal, S: LooseFiles>(
 }
 
 /// Saves this text as the state in the host's folder, with a journal of the host's open uploads. After an `Err`
-/// the folder has its old state or this one, and what belongs to it.
+/// the folder has its old state or the new one, and what belongs to that state.
 pub fn save_as<H: Files<File = File> + AllocGlobal, S: LooseFiles>(
     rt: &H,
     alloc: Global,

@@ -4,7 +4,7 @@ ghost use Rattle.std.specs.Io.KnownBytes.{Appends};
 use crate::fault::Fault;
 use std::io::Write;
 
-/// Writes all of it, and flushes.
+/// Writes all the bytes, and flushes.
 pub fn send<W: Write>(bytes: &[u8], writer: &mut W) -> Result<(), Fault>
     ensures ok { OnOk result (Appends (W.contents writer.old) (W.contents writer.new) bytes.now) }
     ensures cause { IfErr result (λ fault. fault ≡ Fault.Write) }

@@ -20,7 +20,7 @@ use std::net::Net;
 use std::random::RandomSource;
 use std::time::Clock;
 
-// Serves so many connections, one after another, or as many at once as is said.
+// Serves this many connections, one after another, or up to `at_once` of them at once.
 fn serve_all<H: Net + Clock, S: LooseFiles>(
     rt: &H,
     alloc: Global,
@@ -61,7 +61,7 @@ fn serve_all_kept<H: Files<File = File> + AllocGlobal + Net + Clock, S: LooseFil
     }
 }
 
-// Serves so many connections, and then takes the socket away.
+// Serves this many connections, and then removes the socket.
 fn serve_at<H: Files + Net + Clock, S: LooseFiles>(
     rt: &H,
     alloc: Global,
@@ -80,7 +80,7 @@ fn serve_at<H: Files + Net + Clock, S: LooseFiles>(
     served
 }
 
-// Serves so many connections, keeps what they do, and then takes the socket away.
+// Serves this many connections, keeps what they do, and then removes the socket.
 fn serve_kept_at<H: Files<File = File> + Net + AllocGlobal + Clock, S: LooseFiles>(
     rt: &H,
     alloc: Global,
@@ -117,8 +117,9 @@ fn serve_host<H: Files<File = File> + Net + Clock, S: LooseFiles>(
     serve_at(rt, alloc, host, listening, socket, connections, at_once)
 }
 
-// Serves connections to a host that a folder keeps, at a socket that was bound, and has its place once the
-// state is saved. It is saved once more behind the last, and each request is kept before its reply goes out.
+// Serves connections to a host that a folder keeps, at a socket that was bound. The socket is moved to its
+// path after the state is saved. The state is saved once more after the last connection. Each request is kept
+// before its reply is sent.
 fn keep_connections<'x, H: Files<File = File> + Net + AllocGlobal + Clock, S: LooseFiles>(
     rt: &'x H,
     alloc: Global,
@@ -228,10 +229,10 @@ fn serve_in_folder<'x, H: Files<File = File> + Net + AllocGlobal + RandomSource 
     )
 }
 
-/// Serves so many connections to a socket, each a session of the host that has these tenants too: as many
-/// at once as is said, or one after another.
-/// What was served is saved where a folder keeps the host, but for open uploads, which end with the last
-/// connection; where the folder could not be written, it keeps all that was answered, open uploads too.
+/// Serves this many connections to a socket, each a session of the host with these tenants added: up to
+/// `at_once` of them at once, or one after another.
+/// If a folder keeps the host, what was served is saved. Open uploads are not saved: they end with the last
+/// connection. If the folder could not be written, it keeps all that was answered, including open uploads.
 pub fn serve<H: Files<File = File> + Net + AllocGlobal + RandomSource + Clock>(
     rt: &H,
     alloc: Global,

@@ -13,7 +13,7 @@ pub struct Stall {
 }
 
 impl Stall {
-    /// Of a connection that begins.
+    /// For a new connection.
     pub fn new(now: Instant) -> Stall {
         Stall {
             since: now,
@@ -22,7 +22,7 @@ impl Stall {
         }
     }
 
-    /// After a turn: so many frames were answered, and so many bytes of a reply wait.
+    /// After a turn: `frames` frames were answered, and `waiting` bytes of a reply wait.
     pub fn after(self, now: Instant, frames: u64, waiting: usize) -> Stall {
         if self.frames == frames && self.waiting == waiting {
             return self;
@@ -34,7 +34,7 @@ impl Stall {
         }
     }
 
-    /// The peer has so much longer.
+    /// Gives the peer this much more time.
     pub fn put_off(self, by: Duration) -> Stall {
         Stall {
             since: self.since.checked_add(by).unwrap_or(self.since),
@@ -43,7 +43,7 @@ impl Stall {
         }
     }
 
-    /// Whether something has waited for the peer for 30 seconds, and it took nothing of it.
+    /// Whether something has waited for the peer for 30 seconds, and the peer took nothing of it.
     pub fn is_over(&self, now: Instant) -> bool
         ensures { self.now.waiting ≡ 0 → result ≡ false }
     {

@@ -8,7 +8,7 @@ use std::fs;
 use std::fs::{File, Files, OpenFile};
 use std::io::Read;
 
-// So much of a state is compared at once.
+// How many bytes of a state are compared at once.
 const PIECE: usize = 16_384;
 
 // The name of the state in a folder.
@@ -26,7 +26,7 @@ pub(crate) fn standing_name<H: Files<File = File>>(
     }
 }
 
-// The state in a folder, opened, if it is there and can be read.
+// The opened state file of a folder, if it exists and can be read.
 fn opened<H: Files<File = File>>(rt: &H, alloc: Global, dir: &str) -> Option<File> {
     let Ok(path) = format!(in alloc; "{dir}/state") else {
         return None;
@@ -57,8 +57,8 @@ fn holds(file: &mut File, text: &[u8]) -> bool {
     matches!(file.read(&mut buffer), Ok(0))
 }
 
-// The name of a state of this text, over a folder in which the state of the standing name is. If that has the
-// same text, it is not hashed again.
+// The name of a state of this text. The folder has the state `standing`: if that has the same text, the text is
+// not hashed again.
 pub(crate) fn name_of<H: Files<File = File>>(
     rt: &H,
     alloc: Global,

@@ -14,36 +14,36 @@ use std::time::{Clock, Duration, Instant};
 // The listener's number: no connection has it.
 const LISTENER: Token = Token(usize::MAX);
 
-// How long the system is waited for at most where a peer's time runs, or where a connection could not be
-// accepted.
+// The longest wait for the system, in milliseconds, while a peer's time runs or after a connection could not
+// be accepted.
 const TICK: u64 = 500;
 
-// While there is something to do, so many rounds come before the system is asked anew.
+// While there is something to do, this many rounds run before the system is asked again.
 const ROUNDS: u32 = 8;
 
-/// The connections that are open, and the listener that others come from.
+/// The open connections, and the listener that new ones come from.
 #[derive(Drop)]
 pub struct Table {
     poll: Poll,
     events: Events<Global>,
     listener: UnixListener,
     peers: Vec<Peer>,
-    // As many may be open.
+    // How many connections may be open.
     most: usize,
-    // So many are still to be accepted.
+    // How many are still to be accepted.
     left: u32,
-    // The number of the next.
+    // The number of the next connection.
     next: usize,
-    // More may be accepted at once.
+    // Whether more may be accepted at once.
     is_calling: bool,
-    // So many rounds since the system was asked.
+    // How many rounds ran since the system was last asked.
     rounds: u32,
-    // When a round was over last.
+    // When the last round ended.
     tidied: Option<Instant>,
 }
 
 impl Table {
-    /// No connection is open, and so many are to be accepted, of which as many may be open at once.
+    /// A table without open connections. `connections` are to be accepted, and `most` may be open at once.
     pub fn new<H: Net>(
         rt: &H,
         alloc: Global,
@@ -71,12 +71,12 @@ impl Table {
         })
     }
 
-    /// The connections that are open.
+    /// The open connections.
     pub fn peers(&mut self) -> &mut [Peer] {
         self.peers.as_mut_slice()
     }
 
-    /// Whether all were accepted, and none is open any more.
+    /// Whether all connections were accepted, and none is open any more.
     pub fn is_done(&self) -> bool {
         self.left == 0 && self.peers.is_empty()
     }
@@ -87,12 +87,12 @@ impl Table {
         self.peers.iter().any(|peer| has_turn(peer, is_full))
     }
 
-    // Whether a place is free, or one is idle.
+    // Whether a place is free, or a connection is idle.
     fn has_place(&self) -> bool {
         self.peers.len() < self.most || self.peers.iter().any(|peer| is_idle(peer))
     }
 
-    // Whether something is to be done though nothing happens: a peer's time runs, or more are to be accepted.
+    // Whether there is something to do even without an event: a peer's time runs, or more are to be accepted.
     fn is_timed(&self) -> bool {
         if self.is_calling && self.left > 0 {
             return true;
@@ -102,7 +102,7 @@ impl Table {
             .any(|peer| peer.writer().watch().idle_since().is_none())
     }
 
-    // How long the system is waited for.
+    // How long to wait for the system.
     fn wait(&self) -> Option<Duration> {
         if self.has_turns() {
             return Some(Duration::ZERO);
@@ -113,7 +113,7 @@ impl Table {
         None
     }
 
-    // Notes at which connections the system says that something happened.
+    // Notes at which connections the system reports an event.
     fn hear(&mut self) {
         for event in self.events.iter() {
             let Token(number) = event.token();
@@ -129,7 +129,7 @@ impl Table {
         }
     }
 
-    // Waits until something is to be done.
+    // Waits until there is something to do.
     fn listen(&mut self) -> io::Result<()> {
         let wait = self.wait();
         if wait == Some(Duration::ZERO) && self.rounds < ROUNDS {
@@ -146,7 +146,7 @@ impl Table {
         Ok(())
     }
 
-    // Where no place is free, the one that has been idle longest goes.
+    // If no place is free, ends the connection that has been idle longest.
     fn make_place(&mut self) {
         if self.peers.len() < self.most {
             return;
@@ -179,7 +179,7 @@ impl Table {
         });
     }
 
-    // Takes a connection in. One for which there is no memory ends alone.
+    // Adds a connection. If there is no memory for it, only that connection ends.
     fn add(&mut self, alloc: Global, stream: UnixStream, now: Instant) {
         let mut stream = stream;
         let number = self.next;
@@ -202,7 +202,7 @@ impl Table {
         let _kept = self.peers.push(Party::new(alloc, incoming, outgoing));
     }
 
-    // Accepts the connections that wait, as far as there are places.
+    // Accepts the waiting connections, as long as there are places.
     fn accept(&mut self, alloc: Global, now: Instant) -> io::Result<()> {
         for _ in 0..self.most {
             if !self.is_calling || self.left == 0 || !self.has_place() {
@@ -246,7 +246,7 @@ impl Table {
         }
     }
 
-    /// Waits until something is to be done, and accepts the connections that wait.
+    /// Waits until there is something to do, and accepts the waiting connections.
     pub fn attend<H: Clock>(&mut self, rt: &H, alloc: Global) -> io::Result<()> {
         let now = Instant::now(rt)?;
         self.put_off(now);
@@ -258,8 +258,8 @@ impl Table {
         Ok(())
     }
 
-    /// After a round: ends the connections at which all was said, that cannot go on, or whose peer's time is
-    /// over, and tells whether there were any.
+    /// After a round, ends the connections that are finished, that cannot go on, or whose peer's time is over.
+    /// Returns whether there were any.
     pub fn tidy<H: Clock>(&mut self, rt: &H) -> io::Result<bool> {
         let now = Instant::now(rt)?;
         let before = self.peers.len();

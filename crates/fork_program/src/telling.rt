@@ -8,7 +8,7 @@ use fork_state::LoadFault;
 use fork_wire::{AgainFault, SessionFault};
 use loose_store::FileFault;
 
-/// How a session's fault is told.
+/// The fault that reports a session's fault.
 pub fn of_session(fault: SessionFault) -> Fault
     ensures { result ≡ session_fault fault }
 {
@@ -20,7 +20,7 @@ pub fn of_session(fault: SessionFault) -> Fault
     }
 }
 
-/// How it is told that a folder could not be opened.
+/// The fault that reports that a folder could not be opened.
 pub fn of_store(fault: FileFault) -> Fault
     ensures told { result ≡ store_fault fault }
     ensures within { IsUnkept result }
@@ -31,7 +31,7 @@ pub fn of_store(fault: FileFault) -> Fault
     }
 }
 
-/// How it is told that a state could not be read.
+/// The fault that reports that a state could not be read.
 pub fn of_state(fault: FileFault) -> Fault
     ensures told { result ≡ state_fault fault }
     ensures within { IsUnkept result }
@@ -42,7 +42,7 @@ pub fn of_state(fault: FileFault) -> Fault
     }
 }
 
-/// How it is told that a journal could not be read.
+/// The fault that reports that a journal could not be read.
 pub fn of_journal(fault: FileFault) -> Fault
     ensures told { result ≡ journal_fault fault }
     ensures within { IsUnkept result }
@@ -53,7 +53,7 @@ pub fn of_journal(fault: FileFault) -> Fault
     }
 }
 
-/// How it is told that what a journal has could not be done again.
+/// The fault that reports that the requests of a journal could not be repeated.
 pub fn of_again(fault: AgainFault) -> Fault
     ensures told { result ≡ again_fault fault }
     ensures within { IsUnkept result }
@@ -69,7 +69,7 @@ pub fn of_again(fault: AgainFault) -> Fault
     }
 }
 
-/// How it is told that no host could be made of a state.
+/// The fault that reports that no host could be loaded from a state.
 pub fn of_load(fault: LoadFault) -> Fault
     ensures told { result ≡ load_fault fault }
     ensures within { IsUnkept result }

@@ -4,24 +4,24 @@ use std::io::{ErrorKind, Read};
 use std::os::unix::fs::{DirBuilderExt, OpenOptionsExt};
 use std::{fs, io};
 
-/// One thing that a start does with a path of its folder, and that leaves what is there as it is.
+/// One thing that a start does with a path of its folder. It leaves what exists there as it is.
 #[derive(Clone, Copy)]
 pub(crate) enum Trial {
-    /// To make a folder, and its parents.
+    /// To create a folder, and its parents.
     Make,
-    /// To take the lock of a file, which is let go again.
+    /// To take the lock of a file, and release it.
     Lock,
-    /// To list a folder, if it is there.
+    /// To list a folder, if it exists.
     List,
     /// To look for a file that was being written.
     Look,
-    /// The same in each folder of objects' files.
+    /// The same in each folder of object files.
     LookInEach,
-    /// To read a file, if it is there.
+    /// To read a file, if it exists.
     Read,
 }
 
-// Makes a folder as a start does. One that is there stays as it is, and so does what else is there.
+// Creates a folder as a start does. A folder that exists is left as it is, and so is anything else there.
 fn make(rt: &impl Files, path: &str) -> io::Result<()> {
     if path.is_empty() {
         return Err(io::Error::from(ErrorKind::NotFound));
@@ -38,7 +38,7 @@ fn make(rt: &impl Files, path: &str) -> io::Result<()> {
     }
 }
 
-// What is there is a regular file; so nothing waits for it.
+// Whether a regular file exists at the path. Anything else there is an error, so that opening it cannot block.
 fn is_regular(rt: &impl Files, path: &str) -> io::Result<bool> {
     match fs::metadata(rt, path) {
         Ok(there) if there.is_file() => Ok(true),
@@ -48,7 +48,7 @@ fn is_regular(rt: &impl Files, path: &str) -> io::Result<bool> {
     }
 }
 
-// Takes a file's lock, and lets it go.
+// Takes a file's lock, and releases it.
 fn lock<H: Files<File = File>>(rt: &H, path: &str) -> io::Result<()> {
     is_regular(rt, path)?;
     let file = OpenOptions::new()
@@ -69,7 +69,7 @@ fn read(rt: &impl Files, path: &str) -> io::Result<()> {
     Ok(())
 }
 
-// What is not there hinders nothing.
+// A path that does not exist is no error.
 fn there<T: Drop>(answer: io::Result<T>) -> io::Result<()> {
     match answer {
         Ok(_) => Ok(()),
@@ -78,7 +78,7 @@ fn there<T: Drop>(answer: io::Result<T>) -> io::Result<()> {
     }
 }
 
-// Looks for the files that were being written, in the folders of objects' files.
+// Looks for the files that were being written, in the folders of object files.
 fn look_in_each(rt: &impl Files, alloc: Global, objects: &str) -> io::Result<()> {
     for first in 0..=u8::MAX {
         let path = format!(in alloc; "{objects}/{first:02x}/part")?;
@@ -88,7 +88,7 @@ fn look_in_each(rt: &impl Files, alloc: Global, objects: &str) -> io::Result<()>
 }
 
 impl Trial {
-    /// How it went at this path.
+    /// Runs the trial at this path.
     pub(crate) fn at<H: Files<File = File> + AllocGlobal>(
         self,
         rt: &H,
@@ -106,7 +106,7 @@ impl Trial {
     }
 }
 
-/// The words for an error of a trial: those for its kind, or the system's own where it has none.
+/// The words for an error of a trial: those for its kind, or the system's own if it has no kind.
 pub(crate) fn words_for(alloc: Global, error: &io::Error) -> Result<String, AllocError> {
     match error.kind() {
         ErrorKind::WouldBlock => String::from_str(alloc, "lock held by another process"),

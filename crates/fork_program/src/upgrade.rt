@@ -10,7 +10,7 @@ use std::fs::{File, Files};
 use std::io::Write;
 use std::random::RandomSource;
 
-// Saves anew what a folder keeps, with all that its journal has done.
+// Saves again what a folder keeps, with all that its journal has.
 fn renew<'x, H: Files<File = File> + AllocGlobal + RandomSource>(
     rt: &'x H,
     alloc: Global,
@@ -28,10 +28,9 @@ fn renew<'x, H: Files<File = File> + AllocGlobal + RandomSource>(
     }
 }
 
-/// Saves what a folder keeps in the newest form, with all that its journal has, and prints that form's
-/// version. A folder without a state is left as it is, or left out where it is not
-/// there. After any other `Err`, and where it is killed, the folder keeps what it kept, as it was or as it
-/// is saved.
+/// Saves what a folder keeps in the newest format, with all that its journal has, and prints the version of
+/// that format. A folder without a state is left as it is, and one that does not exist is not created. After
+/// any other `Err`, and after a kill, the folder keeps what it kept, as it was or as saved here.
 pub fn upgrade<H: Files<File = File> + AllocGlobal + RandomSource, W: Write>(
     rt: &H,
     alloc: Global,

@@ -4,30 +4,30 @@ ghost use Rattle.std.specs.Time.{instant_nanos};
 use crate::patience::{end_of, left_until};
 use std::time::{Duration, Instant};
 
-// How many bytes of a reply a peer has one more second for.
+// How many bytes of a reply earn the peer one more second.
 const BYTES_A_SECOND: usize = 65536;
 
-// What is waited for at a connection.
+// What a connection waits for.
 #[derive(Clone, Copy)]
 enum Awaited {
-    // The first byte of a frame, since then, without end.
+    // The first byte of a frame, since this time, without a deadline.
     Beginning(Instant),
-    // The rest of it, until then.
+    // The rest of the frame, until this deadline.
     Rest(Instant),
-    // That a reply is taken, until then.
+    // The peer to take a reply, until this deadline.
     Taking(Instant),
 }
 
-/// What a connection that is served beside others waits for, and how long it may.
+/// What a connection that is served along with others waits for, and how long it may.
 #[derive(Clone, Copy)]
 pub struct Watch {
     awaited: Awaited,
-    // How many of its frames had been answered when that began.
+    // How many of its frames had been answered when the wait began.
     frames: u64,
 }
 
-// When a reply of so many bytes has to have been taken that goes out from now on: after 30 seconds, and one
-// more for each 64 KiB.
+// The deadline to take a reply of `len` bytes that is sent from now on: 30 seconds, and one more second for
+// each 64 KiB.
 fn end_of_reply(now: Instant, len: usize) -> Option<Instant>
     ensures { IfSome result (λ end. instant_nanos end ≡ instant_nanos now + 30000000000 + len / 65536 * 1000000000) }
 {
@@ -38,7 +38,7 @@ fn end_of_reply(now: Instant, len: usize) -> Option<Instant>
 }
 
 impl Watch {
-    /// Of a connection that begins.
+    /// For a new connection.
     pub fn new(now: Instant) -> Watch {
         Watch {
             awaited: Awaited::Beginning(now),
@@ -46,7 +46,7 @@ impl Watch {
         }
     }
 
-    // Begins anew for a reply of so many bytes, unless it is the same that was waited for.
+    // Starts to wait until a reply of `waiting` bytes is taken, unless it waits for that reply already.
     fn of_reply(self, now: Instant, frames: u64, waiting: usize) -> Watch {
         if let Awaited::Taking(_) = self.awaited {
             if self.frames == frames {
@@ -78,8 +78,8 @@ impl Watch {
         }
     }
 
-    /// After a turn: so many frames were answered, so many bytes of a reply wait, and a frame has begun or
-    /// not.
+    /// After a turn: `frames` frames were answered, `waiting` bytes of a reply wait, and `has_begun` says whether
+    /// a frame has begun.
     pub fn after(self, now: Instant, frames: u64, waiting: usize, has_begun: bool) -> Watch {
         if waiting > 0 {
             return self.of_reply(now, frames, waiting);
@@ -96,7 +96,7 @@ impl Watch {
         }
     }
 
-    /// The peer has so much longer.
+    /// Gives the peer this much more time.
     pub fn put_off(self, by: Duration) -> Watch {
         let awaited = match self.awaited {
             Awaited::Beginning(since) => Awaited::Beginning(since),

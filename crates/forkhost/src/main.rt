@@ -13,7 +13,7 @@ use std::random::RandomSource;
 use std::rt::{Clock, Env};
 use std::{env, io};
 
-// The arguments of the process; none if one of them is not text, which is reported.
+// The arguments of the process. If one of them is not UTF-8, reports that and returns `None`.
 fn arguments<R: Env + AllocGlobal + Eprint>(rt: &R) -> io::Result<Option<Vec<String>>> {
     let args = match env::args(rt) {
         Ok(args) => args,
@@ -32,7 +32,7 @@ fn arguments<R: Env + AllocGlobal + Eprint>(rt: &R) -> io::Result<Option<Vec<Str
     Ok(Some(texts))
 }
 
-// The length of a block that glibc maps on its own, as it is longer than glibc's limit for its heap.
+// The length of a block that glibc maps on its own, because it is longer than glibc's limit for its heap.
 const MAPPED: usize = 33_000_000;
 
 // Keeps freed memory for later use, up to twice such a block. glibc follows the longest block mapped
@@ -43,8 +43,8 @@ fn keep_memory(alloc: Global) {
     let _block = Vec::<u8>::with_capacity(alloc, MAPPED);
 }
 
-// Opens files in place of standard streams that are closed, so that no file of a folder gets their
-// numbers: reading from them is at the end, and writing to them fails.
+// Opens files in place of closed standard streams, so that no file of a folder gets their numbers. Reading
+// from them reports the end of the input, and writing to them fails.
 fn hold_streams<R: Files<File = File>>(
     rt: &R,
 ) -> (io::Result<File>, io::Result<File>, io::Result<File>) {
@@ -53,8 +53,8 @@ fn hold_streams<R: Files<File = File>>(
     (first, second, File::open(rt, "/dev/null"))
 }
 
-// Reports on standard error that the folder of a host that is about to start is open to others. What cannot be
-// reported stays unreported.
+// Reports on standard error if the folder of a host that is about to start is open to others. A failure to
+// report is ignored.
 fn tell_open<R: AllocGlobal + Eprint + Files>(rt: &R, words: &[&str]) -> io::Result<()> {
     let alloc = rt.alloc();
     let mut told = Vec::new(alloc);

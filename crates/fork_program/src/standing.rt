@@ -47,10 +47,11 @@ fn opened<H: Files<File = File>>(rt: &H, alloc: Global, dir: &str) -> Option<Fil
 fn holds(file: &mut File, text: &[u8]) -> bool {
     let mut buffer = [0; PIECE];
     for piece in text.chunks(PIECE) {
-        let Ok(()) = file.read_exact(&mut buffer[..piece.len()]) else {
+        let len = piece.len().min(PIECE);
+        let Ok(()) = file.read_exact(&mut buffer[..len]) else {
             return false;
         };
-        if &buffer[..piece.len()] != piece {
+        if &buffer[..len] != piece {
             return false;
         }
     }

@@ -1,4 +1,4 @@
-use Rattle.std.proofs.Common.{◌<◌, ◌≡◌, ℕ, length, refl, sym, subst}
+use Rattle.std.proofs.Common.{◌<◌, ℕ, refl, sym, subst}
 use Rattle.fork_program.specs.Serving.{Idle}
 use Rattle.fork_program.proofs.VisitLemmas.{paused, served_to_end}
 use Rattle.fork_program.proofs.at_once.kept_rounds.Goals as goal

@@ -32,6 +32,16 @@ def body_at(lines, row):
     return opens, next((at for at in level if at > opens and lines[at].lstrip().startswith("}")), opens)
 
 
+def after_parameters(text):
+    """What follows the parameters in angle brackets with which a text begins, if it begins with any."""
+    depth = 0
+    for at, sign in enumerate(text):
+        depth += (sign == "<") - (sign == ">" and text[at - 1] != "-")
+        if depth == 0:
+            return text[at + 1 :] if at else text
+    return text
+
+
 def last_word(text):
     return re.match(r"&?([\w:]*)", text.strip())[1].rstrip(":").rpartition("::")[2]
 
@@ -40,7 +50,7 @@ def owner_of(line):
     """The name that a check gives to what an `impl` or a `trait` opens (`Type`, `TypeTrait`, `TypeTraitArgument`), and
     whether it is a type alone."""
     kind, rest = OWNER.match(line).group(2, 3)
-    bare = re.sub(r"^<.*?>(?= \S)", "", rest).partition(" where ")[0]
+    bare = after_parameters(rest).partition(" where ")[0]
     trait, _, of = bare.rpartition(" for ")
     arguments = re.findall(r"(?<!')\b[A-Za-z_]\w*", trait.partition("<")[2])
     return last_word(of) + last_word(trait) + "".join(arguments), kind == "impl" and not trait

@@ -71,6 +71,8 @@ def functions_at(rows, folder):
         function = function_at(folder, path, row)
         if not function:
             raise Unfit(f"it stands outside all functions, in {path}, line {row + 1}")
+        if not all(function.split("::")):
+            raise Unfit(f"it stands in a function whose type cannot be read, in {path}, line {row + 1}")
         found.add(function)
     if not found:
         raise Unfit("it changes nothing")

@@ -39,17 +39,23 @@ def begun(checks, program, *words):
     return live
 
 
-def spoil(folder, content):
+def spoil(folder, content, kind=b"blob"):
     """A link to itself is in the place of the object's file, so that no read of it succeeds."""
-    path = folder.file_of(name_of(b"blob", content))
+    path = folder.file_of(name_of(kind, content))
     os.remove(path)
     os.symlink(path, path)
 
 
-def mend(folder, content):
-    name = name_of(b"blob", content)
+def mend(folder, content, kind=b"blob"):
+    name = name_of(kind, content)
     os.remove(folder.file_of(name))
-    folder.keep(name, stored(b"blob", content))
+    folder.keep(name, stored(kind, content))
+
+
+def commit_of(tree, seconds, *parents):
+    lines = [b"tree %s" % tree, *(b"parent %s" % parent for parent in parents)]
+    idents = [b"%s A <a@b> %d +0000" % (word, seconds) for word in (b"author", b"committer")]
+    return b"\n".join([*lines, *idents]) + b"\n"
 
 
 def show_kept_objects(checks: Checks, program, work):
@@ -120,3 +126,40 @@ def show_swept_and_sent_again(checks: Checks, program, work):
         checks.same("nor is it seen then", b"no missing %s\n" % name, live.asked(ALICE, ask_of(name)))
         checks.same("its file is gone", {}, folder.files())
     checks.same("its end", done(), live.ended())
+
+
+def asks_links(checks: Checks, live, commits):
+    """What goes along links and parents is answered: bases, a history, and what stays of a prune."""
+    root, left, right, top = commits
+    for first, second, base in ((left, right, root), (left, top, left), (top, top, top), (root, right, root)):
+        checks.same("a base", b"ok\n%s\n" % base, live.asked(ALICE, b"merge-base r %s %s\n" % (first, second)))
+    checks.same("a history", b"ok\n%s\n" % top, live.asked(ALICE, b"rev-list r %s ^%s ^%s\n" % (top, left, right)))
+    checks.same("a prune", b"ok\n", live.asked(ALICE, b"prune\n"))
+
+
+def show_links_are_known(checks: Checks, program, work):
+    """After a push, and after a start, links are followed although no tree and no commit can be read."""
+    folder = Folder(os.path.join(work, "links"))
+    blob = b"linked"
+    tree = b"100644 file\0" + bytes.fromhex(name_of(b"blob", blob).decode())
+    root = commit_of(name_of(b"tree", tree), 1)
+    left = commit_of(name_of(b"tree", tree), 2, name_of(b"commit", root))
+    right = commit_of(name_of(b"tree", tree), 3, name_of(b"commit", root))
+    top = commit_of(name_of(b"tree", tree), 4, name_of(b"commit", left), name_of(b"commit", right))
+    commits = [root, left, right, top]
+    names = [name_of(b"commit", commit) for commit in commits]
+    records = [record(b"blob", blob), record(b"tree", tree), *(record(b"commit", commit) for commit in commits)]
+    sent = b"push r\ncreate refs/heads/main %s\n\n" % names[-1] + b"".join(records)
+    unread = [(tree, b"tree"), *((commit, b"commit") for commit in commits)]
+    live = begun(checks, program, "--dir", folder.path)
+    checks.same("a push", b"ok\n", live.asked(ALICE, sent))
+    for words in (None, ["--dir", folder.path]):
+        if words:
+            live = Live(program, *words)
+            checks.same("it is started", b"ok\nr\n", live.asked(ALICE, b"repos\n"))
+        for content, kind in unread:
+            spoil(folder, content, kind)
+        asks_links(checks, live, names)
+        for content, kind in unread:
+            mend(folder, content, kind)
+        checks.same("its end", done(), live.ended())

@@ -259,9 +259,9 @@ def show_synced(checks, program, work):
 
 
 def show_failed_sync(checks, program, work):
-    """Where a sync fails, the reply does not go out, and serving ends."""
+    """If a sync fails, the reply does not go out, and serving ends. The first sync is that of the reserve."""
     for label, words in {"in turn": ["--sync"], "at once": ["--sync", "--at-once", "8"]}.items():
-        kept, fails = os.path.join(work, f"kept {label}"), ["-e", "inject=fdatasync:error=EIO:when=2"]
+        kept, fails = os.path.join(work, f"kept {label}"), ["-e", "inject=fdatasync:error=EIO:when=3"]
         traced = Traced(program, os.path.join(work, f"calls {label}"), *fails)
         serving = Serving(traced, os.path.join(work, "socket"), 2, "--dir", kept, *words, *TENANTS)
         with serving.client() as stream:

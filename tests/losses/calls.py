@@ -14,6 +14,10 @@ SYNCS = "fsync,fdatasync,sync,syncfs,sync_file_range,msync"
 OTHERS = "dup,dup2,dup3,accept,accept4,sendto,sendmsg,splice,io_uring_setup"
 LONGEST = 1 << 24
 STRACE = ["strace", "-D", "-f", "--seccomp-bpf", "-xx", "-s", str(LONGEST), "-e", f"trace={FILES},{NAMES},{SYNCS},{OTHERS}"]
+# No file grows longer, in KiB: a host then makes no reserve, whose zeros the log would have. A shell lets the signal for it
+# be ignored.
+MOST = 32768
+LIMITED = ["bash", "-c", f'trap "" XFSZ; ulimit -f {MOST}; exec "$@"', "limited"]
 LINE = re.compile(r"\d+ +(\w+)\((.*?)(?:\) += (\S+).*| <unfinished \.\.\.>)", re.DOTALL)
 RESUMED = re.compile(r"\d+ +<\.\.\. (\w+) resumed>.*\) += (\S+)")
 TEXT = re.compile(r'"((?:\\x[0-9a-f]{2})*)"(\.\.\.)?')
@@ -78,7 +82,7 @@ class Traced(Program):
 
     def begun(self, *words, stdin=subprocess.PIPE, stdout=subprocess.PIPE):
         self.count += 1
-        given = [*STRACE, "-o", self.log(), self.path, *words]
+        given = [*STRACE, "-o", self.log(), *LIMITED, self.path, *words]
         child = subprocess.Popen(given, stdin=stdin, stdout=stdout, stderr=subprocess.PIPE)
         self.running.append(child)
         until(lambda: os.path.exists(self.log()) or child.poll() is not None)

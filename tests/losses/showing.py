@@ -22,17 +22,28 @@ def place():
     return MEMORY if there.f_bavail * there.f_frsize >= SPACE else None
 
 
-def found_of(path, seed, way):
-    """What is found in one life."""
+def lived(path, seed, way):
+    """What is found in one life, and the error at which it broke off, or None."""
     program = Program(path)
     with tempfile.TemporaryDirectory(dir=place()) as work:
-        life = Life(program, work, seed, way)
+        life, broken = Life(program, work, seed, way), None
         try:
             life.live()
         except (OSError, ValueError, LookupError) as error:
-            life.found.note(seed, f"a life breaks off: {error!r}"[:LONGEST])
+            broken = error
         program.stop()
-        return life.found
+        return life.found, broken
+
+
+def found_of(path, seed, way):
+    """What is found in one life. If it only broke off, as when strace on a busy machine misses a call of a process that is
+    killed, it is lived once more."""
+    found, broken = lived(path, seed, way)
+    if broken and not found.wrong:
+        found, broken = lived(path, seed, way)
+    if broken:
+        found.note(seed, f"a life breaks off: {broken!r}"[:LONGEST])
+    return found
 
 
 def show(checks, path, label, seed, sync, kept):

@@ -1,4 +1,4 @@
--- What was found in the bytes that came is what stands in all that is left.
+-- What was found in the bytes received is so in all that is left.
 use Rattle.std.proofs.Common.{◌≡◌, ◌≢◌, ℕ, ◌+◌, ◌≤◌, ◌⊎◌, inl, inr, Option, Some, None, IfSome, List, [], ◌∷◌, ◌++◌, length, refl, sym, ap, ◌∙◌, subst, arith, append_assoc, append-nil, length-append}
 use Rattle.std.specs.Io.KnownBytes.{Consumes, IsAtEnd}
 use Rattle.chained_log.specs.declared.next.Found.{Found}
@@ -6,11 +6,11 @@ use Rattle.chained_log.specs.declared.next.Found.TheVariants.{Piece, Cut, Altere
 use Rattle.chained_log.specs.Log.{Fits, piece_bytes}
 use Rattle.chained_log.specs.Next.{IsNextOf, IsCut}
 
--- the whole length of the piece of this front
+-- the whole length of the piece that begins so
 abbrev pub IsWholeLength : List ℕ → ℕ → Type 0
 IsWholeLength front whole = (before piece lost : List ℕ) → Fits piece → 4 ≤ length front → front ++ lost ≡ piece_bytes before piece → whole ≡ length (piece_bytes before piece)
 
--- what is no cut stays what it is, whatever follows
+-- what was found stays, whatever follows, unless it is `Cut`
 pub stays : (before came rest : List ℕ) (found : Found) → found ≢ Cut → IsNextOf before came found → IsNextOf before (came ++ rest) found
 stays before came rest (Piece len) right is = record {
   piece = is.piece;

@@ -1,4 +1,4 @@
--- A log is read in one way, and as what was written.
+-- A log is read in one way only, and as what was written.
 use Rattle.std.proofs.Common.{◌≡◌, ℕ, ◌<◌, ◌≤◌, ◌⊎◌, inl, inr, List, [], ◌∷◌, ◌++◌, length, refl, sym, ap, ap₂, ◌∙◌, subst, arith, append_assoc, append-nil, length-append}
 use Rattle.std.proofs.lemmas.List.Elements.{All-head, All-tail}
 use Rattle.chained_log.specs.declared.fault.Ended.{Ended}
@@ -9,7 +9,7 @@ use Rattle.chained_log.specs.Laws.{OneReading, LogIsRead, FrontIsRead, IsReadAsF
 use Rattle.chained_log.proofs.SumLemmas.{fronts, length-head_sum, length-sum_after}
 use Rattle.chained_log.proofs.NextLemmas.{grouped, length-piece_bytes, meets}
 
--- bytes begin with one piece at most
+-- bytes begin with at most one piece
 pub one_piece : (before p q r s : List ℕ) → Fits p → Fits q → piece_bytes before p ++ r ≡ piece_bytes before q ++ s → (p ≡ q) × (r ≡ s)
 one_piece before p q r s small other is =
     let left = piece_bytes before p ++ r in
@@ -33,7 +33,7 @@ nothing_lost s lost is some =
     let parts = length-append s lost in
     omega (arith, whole, parts)
 
--- where a log ends no whole piece comes
+-- no whole piece follows where a log ends
 no_more : (before left p rest : List ℕ) (ended : Ended) → EndsAs before left ended → Fits p → left ≡ piece_bytes before p ++ rest → ⊥
 no_more before left p rest Whole ends fits is = some_bytes before p rest (sym is ∙ ends)
 no_more before left p rest Cut ends fits is =
@@ -79,7 +79,7 @@ pub log_is_read : LogIsRead
 log_is_read before [] fits = refl
 log_is_read before (piece ∷ pieces) fits = (log_bytes (sum_after before piece) pieces, All-head Fits piece pieces fits, refl, log_is_read (sum_after before piece) pieces (All-tail Fits piece pieces fits))
 
--- of the same bytes one front goes at least as far as the other
+-- of two fronts of the same bytes, one begins with the other
 split : (a l front rest : List ℕ) → a ++ l ≡ front ++ rest
     → ((more : List ℕ) × (front ≡ a ++ more) × (l ≡ more ++ rest)) ⊎ ((lost : List ℕ) × (1 ≤ length lost) × (front ++ lost ≡ a))
 split [] l front rest e = inl (front, refl, e)
@@ -110,7 +110,7 @@ read_short before (x ∷ front) lost piece pieces fits some is = record {
   read = (omega arith, record { piece = piece; lost = lost; fits = fits; some = some; parts = is });
 }
 
--- a piece that came whole, and then a front of the others
+-- a piece received whole, and then a front of the others
 read_more : (before front more piece : List ℕ) (pieces : List (List ℕ)) → Fits piece → front ≡ piece_bytes before piece ++ more → IsReadAsFront (sum_after before piece) more pieces → IsReadAsFront before front (piece ∷ pieces)
 read_more before front more piece pieces fits is read = record {
   found = piece ∷ read.found;

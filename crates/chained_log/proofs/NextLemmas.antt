@@ -19,7 +19,7 @@ length-piece_bytes before piece =
     let d = length-sum_after before piece in
     omega (arith, one, two, three, a, b, d)
 
--- any piece that agrees with what is left has the length that stands there
+-- any piece that agrees with what is left has the length given there
 pub meets : (before left more rest r piece : List ℕ) (n : ℕ) → left ≡ length_bytes n ++ r → n < 2 ^ 32 → Fits piece → left ++ more ≡ piece_bytes before piece ++ rest
     → (n ≡ length piece) × (r ++ more ≡ head_sum before (length piece) ++ (piece ++ (sum_after before piece ++ rest)))
 meets before left more rest r piece n parts small fits is =

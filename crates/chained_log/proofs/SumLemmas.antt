@@ -20,12 +20,12 @@ pub length-sum_after : (before piece : List ℕ) → length (sum_after before pi
 unfolding sum_after
 length-sum_after before piece = length-sha256 _
 
--- four bytes are one length's
+-- four bytes write one length
 pub one_length : (n m : ℕ) → n < 2 ^ 32 → m < 2 ^ 32 → length_bytes n ≡ length_bytes m → n ≡ m
 unfolding length_bytes
 one_length n m small other is = sym (from_be_bytes-to_be_bytes_4 n small) ∙ (ap (from_be_bytes w32) is ∙ from_be_bytes-to_be_bytes_4 m other)
 
--- two fronts of one length of the same bytes
+-- two fronts of the same bytes are equal if they have the same length
 pub fronts : (a b r s : List ℕ) → length a ≡ length b → a ++ r ≡ b ++ s → (a ≡ b) × (r ≡ s)
 fronts [] [] r s same e = (refl, e)
 fronts [] (y ∷ b) r s same e = absurd (omega arith)
@@ -47,7 +47,7 @@ agree (x ∷ r) more (y ∷ s) tail e =
     let rest : r ++ more ≡ s ++ tail = cc in
     ap₂ (λ (h : ℕ) (t : List ℕ). h ∷ t) head (agree r more s tail rest)
 
--- of bytes that agree the shorter ones are the front of the others
+-- of bytes that agree, the shorter are a front of the longer
 pub joined : (r s : List ℕ) → length r ≤ length s → take (length s) r ≡ take (length r) s → r ++ drop (length r) s ≡ s
 joined r s short e = ap (λ t. t ++ drop (length r) s) (sym (take_all (length s) r short) ∙ e) ∙ take-append-drop (length r) s
 
@@ -56,7 +56,7 @@ pub take_fewer : (bytes sum : List ℕ) (n most : ℕ) → length sum ≡ most �
 take_fewer bytes sum n most size is =
     (ap (λ k. take k bytes) (is ∙ min_comm (length bytes) most) ∙ take_min most bytes, ap (λ k. take k sum) (is ∙ ap (min (length bytes)) (sym size)) ∙ take_min (length bytes) sum)
 
--- bytes whose end is filled up begin as they did
+-- bytes whose end is padded begin as they did
 padded_all : (bytes zeros : List ℕ) → take (length zeros) bytes ≡ take (length bytes) (take (length zeros) bytes ++ drop (length bytes) zeros)
 padded_all [] [] = refl
 padded_all [] (z ∷ zeros) = refl

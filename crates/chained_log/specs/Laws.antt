@@ -1,4 +1,4 @@
--- What was written is found again.
+-- What was written is read back.
 use Rattle.std.specs.Prelude.{◌≡◌, ◌≢◌, ℕ, All, List, ◌++◌}
 use Rattle.chained_log.specs.declared.fault.Ended.{Ended}
 use Rattle.chained_log.specs.declared.fault.Ended.TheVariants.{Whole, Altered}
@@ -22,6 +22,6 @@ pub record IsReadAsFront (before front : List ℕ) (pieces : List (List ℕ)) : 
   pub right : ended ≢ Altered
   pub read : IsReadAs before front found ended
 
--- any front of what was written
+-- any front of what was written is so read
 abbrev pub FrontIsRead : Type 0
 FrontIsRead = (before : List ℕ) (pieces : List (List ℕ)) (front rest : List ℕ) → All Fits pieces → log_bytes before pieces ≡ front ++ rest → IsReadAsFront before front pieces

@@ -19,7 +19,7 @@ sum_after before piece = sha256 (head_sum before (length piece) ++ piece)
 abbrev pub piece_bytes : List ℕ → List ℕ → List ℕ
 piece_bytes before piece = length_bytes (length piece) ++ (head_sum before (length piece) ++ (piece ++ sum_after before piece))
 
--- its length can be told in four bytes
+-- its length fits in four bytes
 abbrev pub Fits : List ℕ → Type 0
 Fits piece = length piece < 2 ^ 32
 

@@ -1,4 +1,4 @@
--- What stands next in a log after a sum: a whole piece, the front of one, or neither.
+-- What comes next in a log after a sum: a whole piece, the front of one, or neither.
 use Rattle.std.specs.Prelude.{◌≡◌, ◌≢◌, ℕ, ◌≤◌, List, [], ◌∷◌, ◌++◌, length}
 use Rattle.chained_log.specs.declared.fault.Ended.{Ended}
 use Rattle.chained_log.specs.declared.fault.Ended.TheVariants.{Whole, Cut as EndsCut, Altered as EndsAltered}
@@ -26,19 +26,19 @@ pub record IsCut (before left : List ℕ) : Type 0 where
 abbrev pub IsAltered : List ℕ → List ℕ → Type 0
 IsAltered before left = (piece more rest : List ℕ) → Fits piece → left ++ more ≢ piece_bytes before piece ++ rest
 
--- what was found is what stands there
+-- what was found is what is there
 abbrev pub IsNextOf : List ℕ → List ℕ → Found → Type 0
 IsNextOf before left (Piece len) = BeginsPiece before left len
 IsNextOf before left Cut = IsCut before left
 IsNextOf before left Altered = IsAltered before left
 
--- after the last piece the log ends so
+-- after the last piece the log ends this way
 abbrev pub EndsAs : List ℕ → List ℕ → Ended → Type 0
 EndsAs before left Whole = left ≡ []
 EndsAs before left EndsCut = (1 ≤ length left) × IsCut before left
 EndsAs before left EndsAltered = IsAltered before left
 
--- what is left is read as these pieces, and ends so
+-- what is left is read as these pieces, and ends this way
 abbrev pub IsReadAs : List ℕ → List ℕ → List (List ℕ) → Ended → Type 0
 IsReadAs before left [] ended = EndsAs before left ended
 IsReadAs before left (piece ∷ pieces) ended = (rest : List ℕ) × Fits piece × (left ≡ piece_bytes before piece ++ rest) × IsReadAs (sum_after before piece) rest pieces ended

@@ -1,7 +1,7 @@
 ghost use Rattle.chained_log.specs.Laws.{FrontIsRead, LogIsRead, OneReading};
 
-/// A log is read in one way. What was written is read as the pieces that were written, to its end, and
-/// any front of it as the first of these pieces, and nothing in it as altered.
+/// A log is read in one way only. What was written is read as the pieces that were written, to its end. Any
+/// front of it is read as the first of these pieces, with nothing altered.
 pub fn what_is_written_is_found()
     ensures one { OneReading }
     ensures whole { LogIsRead }

@@ -1,5 +1,5 @@
-//! A log of pieces, each between two sums that depend on all bytes before them.
-//! What was written is found again piece by piece: bytes that differ are told from an end that is cut.
+//! A log of pieces, each between two sums that depend on all bytes before them. What was written is read back
+//! piece by piece, and altered bytes are distinguished from an end that is cut off.
 #![tactic(auto)]
 
 mod fault;

@@ -3,18 +3,18 @@ ghost use Rattle.chained_log.specs.Next.{IsNextOf};
 
 use crate::sums::{LENGTH, SUM, agrees, head_of, length_at, sum_of};
 
-/// What stands next in a log.
+/// What comes next in a log.
 #[derive(Clone, Copy, Debug, PartialEq, Eq)]
 pub enum Found {
-    /// A piece of so many bytes, whole and right. Its contents begin at the 36th byte.
+    /// A whole and valid piece, with this many bytes of contents. They begin at byte 36, counted from 0.
     Piece(usize),
-    /// The front of a piece, right as far as it goes, or nothing.
+    /// The front of a piece, valid as far as it goes, or nothing.
     Cut,
     /// Neither.
     Altered,
 }
 
-/// What stands at the front of what is left, after this sum. It takes no memory.
+/// What `left` begins with, after the sum `before`. It allocates nothing.
 pub fn next_piece(before: &[u8; 32], left: &[u8]) -> Found
     ensures { IsNextOf before.now left.now result }
 {

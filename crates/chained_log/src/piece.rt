@@ -6,7 +6,7 @@ use crate::sums::{head_of, sum_of};
 use std::io;
 use std::io::Write;
 
-/// Writes a piece after this sum, in one write where the writer takes it so, and returns the sum after it.
+/// Writes a piece after this sum, in one write if the writer takes it whole, and returns the sum after it.
 pub(crate) fn put_piece<W: Write>(
     writer: &mut W,
     room: &mut Vec<u8>,

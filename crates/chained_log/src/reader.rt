@@ -11,10 +11,10 @@ use std::alloc::{AllocError, Global};
 use std::io;
 use std::io::{ErrorKind, Read};
 
-// A read asks for so many bytes at the most, so that memory is taken for what comes.
+// The most bytes that one read asks for, so that memory is allocated for what arrives.
 const CHUNK: usize = 65_536;
 
-// Adds up to so many bytes, and says how many; none only at the end.
+// Appends up to `most` bytes, and returns how many; none only at the end.
 fn read_onto<R: Read>(reader: &mut R, most: usize, came: &mut Vec<u8>) -> io::Result<usize>
     requires { (0 < most) × (most ≤ CHUNK) }
     ensures some { IfOk result (λ n. (more : List ℕ) × (length more ≡ n) × (n ≤ most)
@@ -36,7 +36,7 @@ fn read_onto<R: Read>(reader: &mut R, most: usize, came: &mut Vec<u8>) -> io::Re
     }
 }
 
-// Reads until so many bytes came, or to the end.
+// Reads until `came` has `most` bytes, or to the end.
 fn fill<R: Read>(reader: &mut R, most: usize, came: &mut Vec<u8>) -> io::Result<()>
     ensures bytes { OnOk result ((more : List ℕ) × Consumes (R.remaining reader.old) (R.remaining reader.new) more
         × (came.new.items ≡ came.old.items ++ more)) }
@@ -51,7 +51,7 @@ fn fill<R: Read>(reader: &mut R, most: usize, came: &mut Vec<u8>) -> io::Result<
     Ok(())
 }
 
-// How many of the last bytes of a text are zero, if `before` of the last bytes in front of these are.
+// How many of the last bytes of a text are zero, if what precedes `bytes` ends in `before` zeros.
 fn zeros_at_end(before: usize, bytes: &[u8]) -> usize {
     let mut zeros = before;
     for byte in bytes {
@@ -64,7 +64,7 @@ fn zeros_at_end(before: usize, bytes: &[u8]) -> usize {
     zeros
 }
 
-// Reads what is left after what came, and says whether the last sum is all zeros.
+// Reads what is left after `came`, and returns whether the log's last `SUM` bytes are all zero.
 fn ends_in_zeros<R: Read>(reader: &mut R, came: &mut Vec<u8>) -> io::Result<bool> {
     let mut zeros = zeros_at_end(0, came.as_slice());
     for _ in 0..u64::MAX {
@@ -77,14 +77,14 @@ fn ends_in_zeros<R: Read>(reader: &mut R, came: &mut Vec<u8>) -> io::Result<bool
     Ok(false)
 }
 
-// How many bytes the piece of this front has, with all that stands around it.
+// The length in bytes of the piece that begins so, with its head and its last sum.
 fn whole_length(front: &[u8]) -> usize
     ensures { (before piece lost : List ℕ) → Fits piece → LENGTH ≤ length front.now → front.now ++ lost ≡ piece_bytes before piece → result ≡ length (piece_bytes before piece) }
 {
     HEAD + length_at(front) as usize + SUM
 }
 
-// Reads the next piece with all that stands around it, or what there is of it, and says what it is.
+// Reads the next piece with its head and its last sum, or what there is of it, and returns what it is.
 fn next_in<R: Read>(reader: &mut R, before: &[u8; 32], came: &mut Vec<u8>) -> io::Result<Found>
     ensures bytes { OnOk result ((more : List ℕ) × Consumes (R.remaining reader.old) (R.remaining reader.new) more
         × (came.new.items ≡ came.old.items ++ more)) }
@@ -100,16 +100,16 @@ fn next_in<R: Read>(reader: &mut R, before: &[u8; 32], came: &mut Vec<u8>) -> io
     Ok(next_piece(before, came.as_slice()))
 }
 
-/// Reads the contents of a log, piece by piece: no byte is given before its piece was found right. What
-/// was altered is an error of the kind `InvalidData`.
+/// Reads the contents of a log, piece by piece. No byte is returned before its piece is known to be valid.
+/// Altered bytes are an error of the kind `InvalidData`.
 #[derive(Drop)]
 pub struct LogReader<R> {
     reader: R,
-    // The sum before the piece that is read.
+    // The sum before the piece being read.
     sum: [u8; 32],
-    // The piece with what stands around it, as far as it came.
+    // What was received of the piece, with its head and its last sum.
     came: Vec<u8>,
-    // Where its contents are that were not given yet. Where it is not whole, nowhere.
+    // The range of its contents that were not returned yet. It is empty if the piece is not whole.
     at: usize,
     end: usize,
     ended: Option<Ended>,
@@ -117,8 +117,8 @@ pub struct LogReader<R> {
 }
 
 impl<R: Read + Drop> LogReader<R> {
-    /// A log after this sum. It takes its memory here, unless a piece is longer than `LogWriter` writes
-    /// one: for such a piece it is taken as it comes.
+    /// A reader of a log after this sum. It allocates its memory here, unless a piece is longer than
+    /// `LogWriter` writes: for such a piece it allocates as the bytes arrive.
     pub fn new(alloc: Global, reader: R, first: [u8; 32]) -> Result<LogReader<R>, AllocError> {
         let came = Vec::with_capacity(alloc, ROOM)?;
         Ok(LogReader {
@@ -131,14 +131,14 @@ impl<R: Read + Drop> LogReader<R> {
         })
     }
 
-    /// How the log ended, where it was read to its end.
+    /// How the log ended, if it was read to its end.
     pub fn ended(&self) -> Option<Ended> {
         self.ended
     }
 }
 
 impl<R: Read> LogReader<R> {
-    // Reads the next piece, after one that was given, or finds how the log ends.
+    // Reads the next piece after one that was returned, or finds how the log ends.
     fn advance(&mut self) -> io::Result<()> {
         if self.end > 0 {
             self.at = 0;
@@ -157,7 +157,7 @@ impl<R: Read> LogReader<R> {
         Ok(())
     }
 
-    // Has a piece of this length that came whole given next.
+    // Makes the contents of a whole piece of this length the next to be returned.
     fn open(&mut self, len: usize) {
         if self.came.len() < HEAD + SUM || self.came.len() - (HEAD + SUM) < len {
             return;
@@ -168,7 +168,7 @@ impl<R: Read> LogReader<R> {
         self.sum.copy_from_slice(&self.came[end..end + SUM]);
     }
 
-    // Gives what there is of the piece and fits.
+    // Copies as many of the contents as there are and as fit, and returns how many.
     fn give(&mut self, buf: &mut [u8]) -> usize
         ensures { result ≤ length buf.new }
     {

@@ -11,13 +11,13 @@ pub(crate) const LENGTH: usize = 4;
 /// How many bytes a sum has.
 pub(crate) const SUM: usize = 32;
 
-/// What stands before a piece's contents: its length, and the sum of that.
+/// How many bytes precede a piece's contents: its length, and the sum of that.
 pub(crate) const HEAD: usize = LENGTH + SUM;
 
-/// The most bytes of the contents of a piece that is written.
+/// The most bytes of contents that a written piece has.
 pub(crate) const LONGEST: usize = 65_536;
 
-/// How many bytes such a piece has with all that stands around it.
+/// How many bytes such a piece has with its head and its last sum.
 pub(crate) const ROOM: usize = HEAD + LONGEST + SUM;
 
 /// The sum of these bytes after the sum before them.
@@ -30,7 +30,7 @@ pub(crate) fn sum_of(before: &[u8; SUM], bytes: &[u8]) -> [u8; SUM]
     hasher.finalize()
 }
 
-/// These bytes agree with the sum, as far as both go.
+/// Whether these bytes agree with the sum, as far as both go.
 pub(crate) fn agrees(bytes: &[u8], sum: &[u8; SUM]) -> bool
     ensures { IsTrue result ↔ (take 32 bytes.now ≡ take (length bytes.now) sum.now) }
 {
@@ -38,7 +38,7 @@ pub(crate) fn agrees(bytes: &[u8], sum: &[u8; SUM]) -> bool
     same(&bytes[..n], &sum[..n])
 }
 
-// The bytes are the same.
+// Whether the bytes are the same.
 fn same(left: &[u8], right: &[u8]) -> bool
     ensures { IsTrue result ↔ (left.now ≡ right.now) }
 {

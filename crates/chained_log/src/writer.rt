@@ -10,18 +10,18 @@ use std::alloc::{AllocError, Global};
 use std::io;
 use std::io::Write;
 
-/// Writes a log: each write is a piece, or one for each 65,536 bytes of it.
+/// Writes a log. Each write is a piece, or one piece for each 65,536 bytes of it.
 #[derive(Drop)]
 pub struct LogWriter<W> {
     writer: W,
     // The sum before the next piece.
     sum: [u8; 32],
-    // Room for a piece and what stands around it.
+    // Room for a piece with its head and its last sum.
     room: Vec<u8>,
 }
 
 impl<W: Write + Drop> LogWriter<W> {
-    /// A log after this sum, of no pieces so far. It takes all its memory here.
+    /// A log without pieces yet, after this sum. It allocates all its memory here.
     pub fn new(alloc: Global, writer: W, first: [u8; 32]) -> Result<LogWriter<W>, AllocError>
         ensures { IfOk result (λ log. (log.writer ≡ writer) × (log.sum ≡ first)) }
     {
@@ -33,7 +33,7 @@ impl<W: Write + Drop> LogWriter<W> {
         })
     }
 
-    /// What the log is written to.
+    /// The writer that the log is written to.
     pub fn writer(&self) -> &W
         ensures { result.now ≡ self.now.writer }
     {
@@ -42,7 +42,7 @@ impl<W: Write + Drop> LogWriter<W> {
 }
 
 impl<W: Write> Write for LogWriter<W> {
-    /// Writes one piece. After an `Err` a part of it may be written, and nothing more is to be.
+    /// Writes one piece. After an `Err` a part of it may have been written, and nothing more must be written.
     fn write(&mut self, buf: &[u8]) -> io::Result<usize>
         ensures bound { WritesAtMost result buf.now }
         ensures bytes { WriteAppends None None result buf.now }

@@ -25,14 +25,14 @@ none_is_bad grants words word given first =
     let found = word_of_grant grants first.before word first.behind given.right (sym given.spelled ∙ first.parts) in
     first.bad found.0 found.1 found.2
 
--- one word stands in one place
+-- one place has one word
 one_word : {x y : List ℕ} → Some x ≡ Some y → x ≡ y
 one_word is = ap (λ (o : Option (List ℕ)). unwrap_or o []) is
 
 apart : (met : Option (Text × List Row)) (n m : ℕ) → third_letter met ≡ n → third_letter met ≡ m → n ≢ m → ⊥
 apart met n m one other differs = differs (sym one ∙ other)
 
--- TYPE is good where an object is asked for, and elsewhere there is none
+-- TYPE is valid if an object is asked for, and otherwise there is none
 type_is_good : (met : Option (Text × List Row)) (command : Command) → Asks met command → IsBadType met → ⊥
 type_is_good met (HashObject kind) asked bad = bad.2 kind (ap (λ (m : Option (Text × List Row)). type_given (rows_met m)) (sym bad.1 ∙ asked.1) ∙ asked.2)
 type_is_good met (Run hosting) asked bad = apart met 110 115 (ap third_letter asked.1) (ap third_letter bad.1) (omega arith)
@@ -47,11 +47,11 @@ type_is_good met (RemoveTenant dir tenant) asked bad = apart met 109 115 (ap thi
 grant_is_good : (grant : Grant) (rows others : List Row) (word : List ℕ) → rows ≡ others → first_of (codes "tenant") rows ≡ Some (grant_word grant) → IsGrant grant → IsNoGrant others word → ⊥
 grant_is_good grant rows others word same given right bad = bad.1 grant right (one_word (sym bad.0 ∙ ap (λ (rs : List Row). first_of (codes "tenant") rs) (sym same) ∙ given))
 
--- nor one that is a name
+-- nor is one that is a name
 tenant_is_good : (tenant : List ℕ) (rows others : List Row) (word : List ℕ) → rows ≡ others → first_of (codes "tenant") rows ≡ Some tenant → IsTenantName tenant → IsNoTenant others word → ⊥
 tenant_is_good tenant rows others word same given right bad = bad.1 (subst IsTenantName (sym (one_word (sym bad.0 ∙ ap (λ (rs : List Row). first_of (codes "tenant") rs) (sym same) ∙ given))) right)
 
--- and so are the tenants
+-- and so no word for a tenant is refused
 tenants_are_good : (met : Option (Text × List Row)) (command : Command) (word : List ℕ) → Asks met command → IsBadTenant met word → ⊥
 tenants_are_good met (HashObject kind) word asked (BadOfRun rows is bad) = apart met 115 110 (ap third_letter asked.1) (ap third_letter is) (omega arith)
 tenants_are_good met (Run hosting) word asked (BadOfRun rows is bad) =

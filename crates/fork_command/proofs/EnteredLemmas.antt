@@ -10,7 +10,7 @@ use Rattle.fork_command.specs.Command.{HasServeWords, HasTenantWords, IsCommandM
 use Rattle.fork_command.specs.Table.{add_tenant_app, check_app, hash_object_app, remove_tenant_app, run_app, serve_app, set_limit_app, table_app, upgrade_app}
 use Rattle.fork_command.proofs.NeededLemmas.{folder_words, level_below, level_last, serve_words, standing, tenant_words}
 
--- those of the table ask for a subcommand
+-- the table requires a subcommand
 checked : (rows : List Row) (has : Bool) → check_fault (built table_app).top rows has ≡ [] → has ≡ true
 unfolding table_app
 checked rows true none = refl
@@ -20,7 +20,7 @@ checked rows false none = (let bad : MissingSubcommand ∷ [] ≡ [] = none in a
 abbrev Takes : Shape → List Text → Type 0
 Takes s words = level_fault s [] nothing_held words false [] ≡ []
 
--- one of eight subcommands, all but the first two of which need words
+-- one of eight subcommands; all but the first two need words
 one_of_eight : (w x y z u p q r : Shape) (words : List Text) → w.name ≡ codes "hash-object" → x.name ≡ codes "run" → y.name ≡ codes "serve" → z.name ≡ codes "check" → u.name ≡ codes "upgrade" → p.name ≡ codes "add-tenant" → q.name ≡ codes "set-limit" → r.name ≡ codes "remove-tenant"
     → (Takes y words → HasServeWords (rows_after y.rules [] words)) → (Takes z words → is_some (first_of (codes "dir") (rows_after z.rules [] words)) ≡ true) → (Takes u words → is_some (first_of (codes "dir") (rows_after u.rules [] words)) ≡ true) → (Takes p words → HasTenantWords (rows_after p.rules [] words)) → (Takes q words → HasTenantWords (rows_after q.rules [] words)) → (Takes r words → HasTenantWords (rows_after r.rules [] words))
     → (a b c d e f g h : Bool) → (let one = cond a (Some w) (cond b (Some x) (cond c (Some y) (cond d (Some z) (cond e (Some u) (cond f (Some p) (cond g (Some q) (cond h (Some r) None))))))) in
@@ -45,7 +45,7 @@ at_stop (Some p) some none =
     (serve_words p.1) (folder_words (codes "check") p.1) (folder_words (codes "upgrade") p.1) (tenant_words (codes "add-tenant") p.1) (tenant_words (codes "set-limit") p.1) (tenant_words (codes "remove-tenant") p.1)
     (answers (standing hash_object_app)) (answers (standing run_app)) (answers (standing serve_app)) (answers (standing check_app)) (answers (standing upgrade_app)) (answers (standing add_tenant_app)) (answers (standing set_limit_app)) (answers (standing remove_tenant_app)) some none
 
--- where clap finds no fault, it met a subcommand of the table
+-- if clap finds no fault, it met a subcommand of the table
 pub met_of : (texts : List Text) → fault_of table_app texts ≡ [] → IsCommandMet (subcommand_of table_app texts)
 met_of texts none =
     let a = built table_app in

@@ -1,4 +1,4 @@
--- Command lines that are written out, as the definitions compute them.
+-- Example command lines, as the definitions compute them.
 use Rattle.std.proofs.Common.{◌≡◌, ℕ, Option, Some, None, List, [], ◌∷◌, codes, option_map, refl}
 use Rattle.clap.specs.Words.{Text, fault_of, first_of, one_of, subcommand_of}
 use Rattle.clap.specs.declared.error.kind.ErrorKind.TheVariants.{ArgumentConflict, DisplayHelp, DisplayVersion, MissingRequiredArgument, MissingSubcommand, TooManyValues, UnknownArgument, ValueValidation}

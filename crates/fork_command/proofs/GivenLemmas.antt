@@ -25,7 +25,7 @@ use Rattle.fork_command.proofs.KeptLemmas.{Keeps, or_else_first, or_else_last}
 abbrev pub row_at : Text → List Row → Option Row
 row_at id rows = find (λ r. bytes_eq r.id id) rows
 
--- where there is a row of this id, Q holds of it
+-- if there is a row of this id, Q holds of it
 abbrev pub Holds : Text → (Row → Type 0) → List Row → Type 0
 Holds id Q rows = IfSome (row_at id rows) Q
 

@@ -44,7 +44,7 @@ more_words grants grant words i d within so_far is =
     ap (λ n. said (take n words)) (add-one i) ∙ (ap said (take-suc words i d within) ∙ map-append (λ word. word.now) (take i words) (get_or words i d ∷ [])) in
     map-append grant_word grants (grant ∷ []) ∙ (ap (λ (front : List (List ℕ)). front ++ grant_word grant ∷ []) so_far ∙ (ap (λ (w : List ℕ). said (take i words) ++ w ∷ []) (sym is) ∙ sym taken))
 
--- the first word that is none
+-- the first word that is not a grant
 pub first_bad : (grants : List Grant) (words : List (Bor (List ℕ))) (i : ℕ) (d : Bor (List ℕ)) → i < length words → All IsGrant grants → map grant_word grants ≡ said (take i words)
     → ((grant : Grant) → IsGrant grant → (get_or words i d).now ≢ grant_word grant) → IsFirstBad (get_or words i d).now (said words)
 first_bad grants words i d within right so_far bad = record {

@@ -18,7 +18,7 @@ pub or_else_last : (a b : Kinds) → or_else a b ≡ [] → b ≡ []
 or_else_last [] b none = none
 or_else_last (kind ∷ kinds) b none = absurd (cc)
 
--- words behind a flag change no row
+-- words after a flag change no row
 option_same : (o : Option Rule) (id word : Text) (h : Held) → (option_word o id word h).0.rows ≡ h.rows
 option_same None id word h = refl
 option_same (Some a) id word h = refl

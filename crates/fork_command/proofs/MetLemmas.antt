@@ -28,7 +28,7 @@ abbrev pub third_letter : Option (Text × List Row) → ℕ
 third_letter None = 0
 third_letter (Some p) = slice_index p.0 2
 
--- where no subcommand was met
+-- if no subcommand was met
 pub none_met : {X A B : Type 0} (o : Option X) (f : X → A) (g : X → B) (p : A × B) → None ≡ option_map f o → option_map {U = A × B} (λ x. (f x, g x)) o ≡ Some p → ⊥
 none_met None f g p none some = absurd (cc)
 none_met (Some x) f g p none some = absurd (cc)
@@ -36,7 +36,7 @@ none_met (Some x) f g p none some = absurd (cc)
 other_letter : {X : Type 0} (n m : ℕ) → n ≡ m → n ≢ m → X
 other_letter n m is differs = absurd (differs is)
 
--- where `check` was met, a folder is given
+-- if `check` was met, a folder is given
 pub check_met : (met : Option (Text × List Row)) (rows : List Row) → IsCommandMet met → met ≡ Some (codes "check", rows) → is_some (first_of (codes "dir") rows) ≡ true
 check_met met rows (ToHash others is) this = other_letter 115 101 (ap third_letter (sym is ∙ this)) (omega arith)
 check_met met rows (ToRun others is) this = other_letter 110 101 (ap third_letter (sym is ∙ this)) (omega arith)
@@ -47,7 +47,7 @@ check_met met rows (ToAdd others is words) this = other_letter 100 101 (ap third
 check_met met rows (ToLimit others is words) this = other_letter 116 101 (ap third_letter (sym is ∙ this)) (omega arith)
 check_met met rows (ToRemove others is words) this = other_letter 109 101 (ap third_letter (sym is ∙ this)) (omega arith)
 
--- and where `upgrade` was
+-- and so if `upgrade` was
 pub upgrade_met : (met : Option (Text × List Row)) (rows : List Row) → IsCommandMet met → met ≡ Some (codes "upgrade", rows) → is_some (first_of (codes "dir") rows) ≡ true
 upgrade_met met rows (ToHash others is) this = other_letter 115 103 (ap third_letter (sym is ∙ this)) (omega arith)
 upgrade_met met rows (ToRun others is) this = other_letter 110 103 (ap third_letter (sym is ∙ this)) (omega arith)
@@ -58,7 +58,7 @@ upgrade_met met rows (ToAdd others is words) this = other_letter 100 103 (ap thi
 upgrade_met met rows (ToLimit others is words) this = other_letter 116 103 (ap third_letter (sym is ∙ this)) (omega arith)
 upgrade_met met rows (ToRemove others is words) this = other_letter 109 103 (ap third_letter (sym is ∙ this)) (omega arith)
 
--- where a tenant is to be added, the words have what it needs
+-- if a tenant is to be added, the words have what that needs
 pub add_met : (met : Option (Text × List Row)) (rows : List Row) → IsCommandMet met → met ≡ Some (codes "add-tenant", rows) → HasTenantWords rows
 add_met met rows (ToHash others is) this = other_letter 115 100 (ap third_letter (sym is ∙ this)) (omega arith)
 add_met met rows (ToRun others is) this = other_letter 110 100 (ap third_letter (sym is ∙ this)) (omega arith)
@@ -69,7 +69,7 @@ add_met met rows (ToAdd others is words) this = subst HasTenantWords (ap rows_me
 add_met met rows (ToLimit others is words) this = other_letter 116 100 (ap third_letter (sym is ∙ this)) (omega arith)
 add_met met rows (ToRemove others is words) this = other_letter 109 100 (ap third_letter (sym is ∙ this)) (omega arith)
 
--- and where a limit is to be set
+-- and so if a limit is to be set
 pub limit_met : (met : Option (Text × List Row)) (rows : List Row) → IsCommandMet met → met ≡ Some (codes "set-limit", rows) → HasTenantWords rows
 limit_met met rows (ToHash others is) this = other_letter 115 116 (ap third_letter (sym is ∙ this)) (omega arith)
 limit_met met rows (ToRun others is) this = other_letter 110 116 (ap third_letter (sym is ∙ this)) (omega arith)
@@ -80,7 +80,7 @@ limit_met met rows (ToAdd others is words) this = other_letter 100 116 (ap third
 limit_met met rows (ToLimit others is words) this = subst HasTenantWords (ap rows_met (sym is ∙ this)) words
 limit_met met rows (ToRemove others is words) this = other_letter 109 116 (ap third_letter (sym is ∙ this)) (omega arith)
 
--- and where a tenant is to be taken out
+-- and so if a tenant is to be removed
 pub remove_met : (met : Option (Text × List Row)) (rows : List Row) → IsCommandMet met → met ≡ Some (codes "remove-tenant", rows) → HasTenantWords rows
 remove_met met rows (ToHash others is) this = other_letter 115 109 (ap third_letter (sym is ∙ this)) (omega arith)
 remove_met met rows (ToRun others is) this = other_letter 110 109 (ap third_letter (sym is ∙ this)) (omega arith)

@@ -15,7 +15,7 @@ use Rattle.fork_command.specs.Table.{at_once_rule, connections_rule, folder_app,
 use Rattle.fork_command.proofs.GivenLemmas.{Holds, defaults_keep, found_keeps, other_keeps, others_keep, own_keeps, row_at}
 use Rattle.fork_command.proofs.KeptLemmas.{EachKeeps, level_keeps, or_else_first, or_else_last}
 
--- the subcommand as it stands in the table
+-- the subcommand as it is in the table
 abbrev pub standing : App → Shape
 standing a = built_leaf (inherited (built table_app).top a.top)
 
@@ -64,7 +64,7 @@ one_given : (g : Bool) → check_kinds false false (not g || false) ≡ [] → g
 one_given true none = refl
 one_given false none = absurd (cc)
 
--- options as they stand in the table
+-- options as they are in the table
 abbrev socket_built : Rule
 socket_built = with_index 1 (filled (needed_rule (codes "socket")))
 

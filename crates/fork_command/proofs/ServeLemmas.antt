@@ -6,7 +6,7 @@ use Rattle.clap.specs.Words.{IsSignedIn, ReadsOne, Row, Text, one_of, without_mi
 use Rattle.clap.proofs.CallerReads.{signed_reads}
 use Rattle.fork_command.specs.Command.{IsPlaces, at_once_given}
 
--- a word that is there is not missing
+-- a word that is given is not missing
 pub absent : {X : Type 0} (o : Option X) → None ≡ o → is_some o ≡ true → ⊥
 absent None none some = absurd (cc)
 absent (Some x) none some = absurd (cc)

@@ -34,12 +34,12 @@ none_as_table a texts same none = ap (λ (b : App). fault_of b texts) (sym same)
 pub met_as_table : (a : App) (texts : List Text) (met : Option (Text × List Row)) → a ≡ table_app → met ≡ subcommand_of a texts → met ≡ subcommand_of table_app texts
 met_as_table a texts met same is = is ∙ ap (λ (b : App). subcommand_of b texts) same
 
--- what is refused where clap finds no fault
+-- what is refused if clap finds no fault
 pub refused_as_table : (faults : Kinds) (met real : Option (Text × List Row)) (error : CommandError) → faults ≡ [] → met ≡ real → IsRefused [] met error → IsRefused faults real error
 refused_as_table faults met real error none is refused =
     subst (λ (f : Kinds). IsRefused f real error) (sym none) (subst (λ (m : Option (Text × List Row)). IsRefused [] m error) is refused)
 
--- where clap finds no fault, an error of its own tells a bad TYPE
+-- if clap finds no fault, an error of its own reports a bad TYPE
 pub refused_faulty : (taken : Bool) (met real : Option (Text × List Row)) (why : CommandError) → met ≡ real → IsRefused [] met why → IsFaulty taken real why
 refused_faulty taken met real (Help error) is refused = absurd refused.1
 refused_faulty taken met real (Usage error) is refused = elim refused.1 [ inl none ↦ absurd none | inr bad ↦ inr (subst IsBadType is bad.1) ]

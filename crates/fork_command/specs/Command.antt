@@ -116,7 +116,7 @@ pub data IsBadTenant (met : Option (Text × List Row)) (word : List ℕ) : Type 
   -- the first word given to `run` or `serve` that is not a grant
   BadOfRun : (rows : List Row) → met ≡ Some (codes "run", rows) → IsFirstBad word (tenants_given rows) → IsBadTenant met word
   BadOfServe : (rows : List Row) → met ≡ Some (codes "serve", rows) → IsFirstBad word (tenants_given rows) → IsBadTenant met word
-  -- the word given to one of the others, which is missing or not a name
+  -- the word given to one of the others, which is not a grant or not a name
   BadOfAdd : (rows : List Row) → met ≡ Some (codes "add-tenant", rows) → IsNoGrant rows word → IsBadTenant met word
   BadOfLimit : (rows : List Row) → met ≡ Some (codes "set-limit", rows) → IsNoGrant rows word → IsBadTenant met word
   BadOfRemove : (rows : List Row) → met ≡ Some (codes "remove-tenant", rows) → IsNoTenant rows word → IsBadTenant met word

@@ -81,6 +81,6 @@ top_app = let top = new_app (codes "forkhost") in record top { top = record top.
 abbrev pub serving_app : App
 serving_app = with_subcommand (with_subcommand (with_subcommand (with_subcommand (with_subcommand top_app hash_object_app.top) run_app.top) serve_app.top) check_app.top) upgrade_app.top
 
--- the subcommands that change its tenants
+-- the whole table: also the subcommands that change a folder's tenants
 unfoldable pub table_app : App
 table_app = with_subcommand (with_subcommand (with_subcommand serving_app add_tenant_app.top) set_limit_app.top) remove_tenant_app.top

@@ -28,8 +28,7 @@ pub enum Command<'a> {
     Run {
         hosting: Hosting<'a>,
     },
-    /// Serve this many connections to a Unix socket: as many of them at once as is said, or one after
-    /// another.
+    /// Serve this many connections to a Unix socket: as many of them at once as is given, or one after another.
     Serve {
         socket: &'a str,
         connections: u32,
@@ -146,7 +145,7 @@ fn named<'a>(matches: &ArgMatches<'a>) -> Result<(&'a str, TenantName), CommandE
     Ok((dir, tenant))
 }
 
-// What words that clap took ask for; nothing if TYPE is bad.
+// What words that clap took ask for, or `None` if TYPE is bad.
 fn asked<'a>(
     alloc: Global,
     matches: &ArgMatches<'a>,
@@ -211,7 +210,7 @@ fn bad_type<'a>(top: &mut clap::Command<'_>) -> CommandError<'a>
     }
 }
 
-/// What the words ask for; the first word is the program's name. Each word given for a tenant is
+/// Returns what the words ask for. The first word is the program's name. Each word given for a tenant is
 /// checked before any command is returned, and after all that `clap` checks.
 pub fn command_of<'a>(alloc: Global, words: &'a [&'a str]) -> Result<Command<'a>, CommandError<'a>>
     ensures ok { let texts = map (λ word. word.now) words.entry.now in

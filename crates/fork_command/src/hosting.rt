@@ -14,7 +14,7 @@ use std::alloc::Global;
 pub struct Hosting<'a> {
     /// The folder that keeps the host, as written; without one the host is kept only in memory.
     pub dir: Option<&'a str>,
-    /// Whether each reply waits until what it tells of is synced in the folder.
+    /// Whether each reply waits until what it reports is synced in the folder.
     pub syncs: bool,
     /// The tenants to add, in the order of the words.
     pub tenants: Vec<Grant>,

@@ -105,7 +105,7 @@ fn at_once<'a>(alloc: Global) -> Arg<'a>
         .value_parser(value_parser!(u32).range(1..=256))
 }
 
-// `serve` with what says where, and to how many.
+// `serve` with the arguments that say where, and for how many connections.
 fn listening<'a>(alloc: Global) -> Result<Command<'a>, AllocError>
     ensures table { IfOk result (λ c. app_of c ≡ listening_app) }
     ensures local { IfOk result (λ c. (out-Command c).has_globals ≡ false) }

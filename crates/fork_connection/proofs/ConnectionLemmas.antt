@@ -17,7 +17,7 @@ use Rattle.fork_connection.specs.declared.inbox.TheConstants.{LONGEST_FRAME}
 use Rattle.fork_connection.specs.Inbox.{IsPart, OfLine, OfPayload}
 use Rattle.fork_connection.specs.Turns.{Act, Acts, Answered, Answers, Chain, IsExchange, IsSent, IsTurn, LeadsTo, Loses, NoFrameComes, Peer, Reads, Refuses, Replies, Talk, Writes, asked, is_loss, peer_of, sent}
 
--- while a frame is to come there is room for it
+-- while a frame is incomplete, there is room for it
 pub part_has_room : (pending : List ℕ) → IsPart pending → length pending < LONGEST_FRAME
 part_has_room pending (OfLine plain short) = omega arith
 part_has_room pending (OfPayload line text payload right short parts) =
@@ -67,7 +67,7 @@ nil_front : (xs ys : List ℕ) → xs ++ ys ≡ [] → xs ≡ []
 nil_front [] ys is = refl
 nil_front (x ∷ xs) ys is = (let none : length (x ∷ (xs ++ ys)) ≡ 0 = ap (λ (l : List ℕ). length l) is in absurd (omega arith))
 
--- where the first acts asked or sent nothing
+-- if the first acts asked or sent nothing
 asked_behind : (acts more : List Act) → asked acts ≡ [] → asked (acts ++ more) ≡ asked more
 asked_behind [] more none = refl
 asked_behind (Reads bytes ∷ acts) more none = asked_behind acts more none
@@ -194,7 +194,7 @@ module _ {H : Type 0} where
   leads_behind answered lost before after bytes acts false leads = leads
   leads_behind answered lost before after bytes acts true leads = record { mid = leads.mid; chain = leads.chain; frame = leads.frame; right = leads.right; is = leads.is }
 
-  -- all of it is, and then more is done
+  -- all that waits is written, and then more is done
   pub sends_then : (answered : Answered H) (lost : Loses H) (host next : H) (left now before after : Option (List ℕ)) (old mid new : Talk) (result : Result Turn TurnFault) → mid.pending ≡ old.pending → IsSent old.waiting mid.waiting before after → mid.waiting ≡ []
       → IsTurn answered lost host next (peer_of left after mid) (peer_of now after new) result → IsTurn answered lost host next (peer_of left before old) (peer_of now after new) result
   sends_then answered lost host next left now before after old mid new result same went empty more =

@@ -10,7 +10,7 @@ use Rattle.fork_frame.proofs.LineLemmas.{line_plain, line_short, split_later}
 use Rattle.fork_connection.specs.Inbox.{IsPart, OfLine, OfPayload, IsHopeless}
 use Rattle.fork_connection.specs.declared.inbox.TheConstants.{LONGEST_LINE}
 
--- bytes without LF, as many as a line's are looked for in, begin no frame
+-- bytes without LF, as many as are searched for a line's, begin no frame
 pub no_line_comes : (pending : List ℕ) → All (λ byte. byte ≢ 10) pending → LONGEST_LINE ≤ length pending → IsHopeless pending
 no_line_comes pending plain long more = record {
   some = longer (pending ++ more) pending more (omega arith) refl;
@@ -20,7 +20,7 @@ no_line_comes pending plain long more = record {
       absurd (omega arith);
 }
 
--- more bytes stand behind a line, LF, and what follows
+-- more bytes after a line, LF, and what follows
 behind_line : (pending text after more : List ℕ) → pending ≡ text ++ 10 ∷ after → pending ++ more ≡ (text ++ 10 ∷ []) ++ (after ++ more)
 behind_line pending text after more parts = ap (λ p. p ++ more) parts ∙ (append_assoc text (10 ∷ after) more ∙ sym (append_assoc text (10 ∷ []) (after ++ more)))
 
@@ -28,7 +28,7 @@ behind_line pending text after more parts = ap (λ p. p ++ more) parts ∙ (appe
 pub no_right_line : (pending text after : List ℕ) → pending ≡ text ++ 10 ∷ after → All (λ byte. byte ≢ 10) text → ((line : Line) → IsFrameLine line text → ⊥) → IsHopeless pending
 no_right_line pending text after parts plain wrong more = bad_line (Some (pending ++ more)) (Some (after ++ more)) text plain (behind_line pending text after more parts) wrong
 
--- a whole frame, and what is behind it
+-- a whole frame, and what follows it
 pub takes_frame : (frame : Frame) (line : Line) (pending text after : List ℕ) → pending ≡ text ++ 10 ∷ after → IsFrameLine line text → line.len ≤ length after
     → frame.asker ≡ line.asker → frame.payload ≡ take line.len after → IsFrame frame × (pending ≡ frame_bytes frame ++ drop line.len after)
 takes_frame frame line pending text after parts right enough asker payload =

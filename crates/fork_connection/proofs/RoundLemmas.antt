@@ -9,7 +9,7 @@ use Rattle.fork_connection.specs.Turns.{Act, Acts, Answered, Answers, Chain, Doe
 use Rattle.fork_connection.specs.Rounds.{AreTurns, IsServed, Reaches, Stands}
 use Rattle.fork_connection.proofs.TurnLemmas.{acts_alone}
 
--- a place within a list has what it has, whatever else would be told
+-- the default does not matter for a place within a list
 pub get_any : {X : Type 0} (xs : List X) (at : ℕ) (a b : X) → at < length xs → get_or xs at a ≡ get_or xs at b
 get_any [] at a b within = absurd (omega (arith, within))
 get_any (x ∷ xs) zero a b within = refl
@@ -120,7 +120,7 @@ module _ {H : Type 0} where
     is = two.is;
   }
 
-  -- one that is over, or has nothing to do, has no turn
+  -- a connection that is over, or has nothing to do, has no turn
   pub has_no_turn : (answered : Answered H) (lost : Loses H) (host : H) (peer : Peer) (is_over : Bool) → IsServed answered lost host host peer peer is_over is_over (Ok tt)
   has_no_turn answered lost host peer is_over = record {
     acts = [];
@@ -202,7 +202,7 @@ module _ {H P : Type 0} where
           let apart : place ≢ at = grind (arith, miss) in
           subst (λ (l : List Act). SendsWhatWaited (table place) l) (sym (acts_at-elsewhere at place served.acts apart)) ((table place).waiting, refl)
 
-      -- what this one holds that went out, and any other one
+      -- what went out at this one, and at any other one
       gone : (place : ℕ) (some : P) (b : Bool) → (place == at) ≡ b → Appends (peer (get_or parties place some)).out (peer (get_or (set parties at new) place some)).out (sent (acts_at place (steps_at at served.acts)))
       gone place some true hit =
           let e : at ≡ place = grind (arith, hit) in
@@ -218,7 +218,7 @@ module _ {H P : Type 0} where
           subst (λ (l : List Act). Appends (peer (get_or parties place some)).out (peer (get_or (set parties at new) place some)).out (sent l)) (sym (acts_at-elsewhere at place served.acts apart))
           (subst (λ (p : P). Appends (peer (get_or parties place some)).out (peer p).out []) (sym now) (Appends-nil (peer (get_or parties place some)).out))
 
-      -- where it was over nothing went out
+      -- if it was over, nothing went out
       gone_none : is_over (get_or parties at other) ≡ true → (place : ℕ) (some : P) → Appends (peer (get_or parties place some)).out (peer (get_or (set parties at new) place some)).out []
       gone_none over place some = by_place (place == at) refl
         where
@@ -282,7 +282,7 @@ module _ {H P : Type 0} where
             acts_at-append place one.steps two.steps ∙ (ap (λ (l : List Act). l ++ acts_at place two.steps) (quiet place before) ∙ turn.1 place apart)),
       )
     where
-      -- of two lists of steps of which one has none at a place
+      -- two lists of steps, one of which has none at a place
       both : (table next : ℕ → Peer) (steps more : List Step) (place at : ℕ) → Runs table steps next → ((p : ℕ) → at ≤ p → acts_at p steps ≡ []) → ((p : ℕ) → p ≢ at → acts_at p more ≡ [])
           → ((p : ℕ) → SendsWhatWaited (table p) (acts_at p steps)) → ((p : ℕ) → SendsWhatWaited (next p) (acts_at p more)) → (b : Bool) → (place == at) ≡ b → SendsWhatWaited (table place) (acts_at place (steps ++ more))
       both table next steps more place at runs quiet alone late later true hit =

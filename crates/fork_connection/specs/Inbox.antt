@@ -1,4 +1,4 @@
--- What a peer's bytes come to (own): they come in pieces, and whole frames are taken off their front.
+-- What becomes of a peer's bytes (own): they come in pieces, and whole frames are taken off their front.
 use Rattle.std.specs.Prelude.{◌≡◌, ◌≢◌, ℕ, ◌<◌, ◌⊎◌, All, List, [], ◌∷◌, ◌++◌, length}
 use Rattle.fork_frame.specs.declared.line.Line.{Line}
 use Rattle.fork_frame.specs.declared.frame.Frame.{Frame}
@@ -12,7 +12,8 @@ use Rattle.fork_connection.specs.declared.inbox.TheConstants.{LONGEST_FRAME, LON
 abbrev pub MOST_PENDING : ℕ
 MOST_PENDING = LONGEST_FRAME
 
--- more must come before a frame does: no LF, and too few bytes for a line; or a right line, LF, and too short a payload
+-- more must come before a frame does: there is no LF, and too few bytes for a line; or there is a valid line, LF, and
+-- too short a payload
 pub data IsPart (pending : List ℕ) : Type 0 where
   OfLine : All (λ byte. byte ≢ 10) pending → length pending < LONGEST_LINE → IsPart pending
   OfPayload : (line : Line) (text payload : List ℕ) → IsFrameLine line text → length payload < line.len → pending ≡ text ++ 10 ∷ payload → IsPart pending
@@ -21,7 +22,7 @@ pub data IsPart (pending : List ℕ) : Type 0 where
 abbrev pub IsHopeless : List ℕ → Type 0
 IsHopeless pending = (more : List ℕ) → IsBad (pending ++ more)
 
--- a frame was taken off the front, and nothing more; or nothing was
+-- a frame was taken off the front, and nothing more; or nothing was taken
 abbrev pub Arrives : List ℕ → List ℕ → Arrival → Type 0
 Arrives old new (Whole frame) = IsFrame frame × (old ≡ frame_bytes frame ++ new)
 Arrives old new Part = IsPart old × (new ≡ old)
@@ -44,7 +45,7 @@ taken [] = []
 taken (Comes piece ∷ more) = taken more
 taken (Goes frame ∷ more) = frame ∷ taken more
 
--- what is pending before, what happens, and what is pending behind it
+-- what is pending before, what happens, and what is pending after it
 abbrev pub Leads : List ℕ → List Happening → List ℕ → Type 0
 Leads old [] new = old ≡ new
 Leads old (Comes piece ∷ more) new = Leads (old ++ piece) more new
@@ -56,7 +57,7 @@ pub record IsTakenOf (old : List ℕ) (all : List Happening) (new : List ℕ) : 
   pub frames : AreFrames (taken all) front
   pub parts : old ++ came all ≡ front ++ new
 
--- no frame stands in front
+-- no whole frame is at the front
 abbrev pub IsSpent : List ℕ → Type 0
 IsSpent pending = IsPart pending ⊎ IsHopeless pending
 

@@ -6,8 +6,9 @@ use Rattle.fork_connection.specs.declared.party.Party.{Party}
 use Rattle.fork_connection.specs.Turns.{Act, Acts, Answered, LeadsTo, Loses, Peer, Runs, SendsWhatWaited, Step, acts_at, acts_of, asked, peer_of, sent}
 
 module _ {H : Type 0} where
-  -- one connection had its turn, in which at most one frame was answered and only what waited before went out, unless it was over;
-  -- what it holds that went out is what these acts wrote, whether it goes on or not; if it goes on, it is as the acts leave it
+  -- one connection had its turn, unless it was over: at most one frame was answered, and only what waited before went
+  -- out; what it holds that went out is what these acts wrote, whether it goes on or not; if it goes on, it is as the
+  -- acts leave it
   pub record IsServed (answered : Answered H) (lost : Loses H) (before after : H) (old new : Peer) (was is : Bool) (result : Result (Unit {0}) Lost) : Type 0 where
     pub acts : List Act
     pub left : Peer
@@ -37,8 +38,8 @@ module _ {P : Type 0} where
   GoesOut peer old new steps = (place : ℕ) (other : P) → Appends (peer (get_or old place other)).out (peer (get_or new place other)).out (sent (acts_at place steps))
 
 module _ {H P : Type 0} where
-  -- from these peers acts led to those of the connections now, and what answers went along, up to a loss if there is one. To each
-  -- peer only what waited for it before went out
+  -- acts led from these peers to those of the connections now, and from the one state of what answers to the other,
+  -- up to a loss if there is one; to each peer only what waited for it before went out
   pub record Reaches (answered : Answered H) (lost : Loses H) (peer : P → Peer) (is_over : P → Bool) (before after : H) (table : ℕ → Peer) (old new : List P) (result : Result (Unit {0}) Lost) : Type 0 where
     pub steps : List Step
     pub next : ℕ → Peer
@@ -48,6 +49,6 @@ module _ {H P : Type 0} where
     pub gone : GoesOut peer old new steps
     pub stands : OnOk result (Stands peer is_over next new)
 
-  -- turns led from the one to the other, whatever the peers were
+  -- turns led from the old connections to the new ones, whatever the peers were
   abbrev pub AreTurns : Answered H → Loses H → (P → Peer) → (P → Bool) → H → H → List P → List P → Result (Unit {0}) Lost → Type 0
   AreTurns answered lost peer is_over before after old new result = (table : ℕ → Peer) → Stands peer is_over table old → Reaches answered lost peer is_over before after table old new result

@@ -12,8 +12,8 @@ use Rattle.fork_connection.specs.declared.connection.TurnFault.{TurnFault}
 use Rattle.fork_connection.specs.declared.connection.TurnFault.TheVariants.{Broken, Lost}
 use Rattle.fork_connection.specs.Inbox.{IsHopeless}
 
--- a peer as it stands: what its reader has left and its writer holds, where that is known, what came and was not yet taken, and
--- what waits to go out
+-- the state of a peer: what its reader has left and its writer holds, if that is known, what came and was not taken
+-- yet, and what waits to go out
 pub record Peer : Type 0 where
   pub left : Option (List ℕ)
   pub out : Option (List ℕ)
@@ -26,17 +26,17 @@ pub data Act : Type 0 where
   Reads : List ℕ → Act
   -- these bytes went out
   Writes : List ℕ → Act
-  -- this frame was answered so
+  -- this frame was answered with this reply
   Answers : Frame → Reply → Act
-  -- no frame comes, which is told
+  -- no frame comes, and the peer is told so
   Refuses : Act
 
--- no frame comes of what is pending: whatever follows, or as nothing more does
+-- what is pending begins no frame, whatever follows, or because nothing more follows
 pub data NoFrameComes (peer : Peer) : Type 0 where
   Hopeless : IsHopeless peer.pending → NoFrameComes peer
   Ended : IsAtEnd peer.left → IsBad peer.pending → NoFrameComes peer
 
--- how an act changes its peer. A frame is taken only where nothing waits to go out
+-- how an act changes its peer; a frame is taken only if nothing waits to go out
 abbrev pub Does : Peer → Act → Peer → Type 0
 Does old (Reads bytes) new = Consumes old.left new.left bytes × (new.pending ≡ old.pending ++ bytes) × (new.waiting ≡ old.waiting) × (new.out ≡ old.out)
 Does old (Writes bytes) new = Appends old.out new.out bytes × (old.waiting ≡ bytes ++ new.waiting) × (new.pending ≡ old.pending) × (new.left ≡ old.left)
@@ -93,7 +93,7 @@ pub record Step : Type 0 where
   pub at : ℕ
   pub act : Act
 
--- the acts at one of them
+-- the acts at one of many peers
 abbrev pub acts_at : ℕ → List Step → List Act
 acts_at peer [] = []
 acts_at peer (step ∷ steps) = cond (step.at == peer) (step.act ∷ acts_at peer steps) (acts_at peer steps)
@@ -126,11 +126,11 @@ module _ {H : Type 0} where
   Chain answers old (Writes bytes ∷ acts) new = Chain answers old acts new
   Chain answers old (Refuses ∷ acts) new = Chain answers old acts new
 
--- a relation between what answers before, a frame, its reply, and what answers after it
+-- a relation between the state of what answers, a frame, its reply, and the state after it
 abbrev pub Answered : Type 0 → Type 1
 Answered H = H → Frame → Reply → H → Type 0
 
--- the same of a frame that has no reply
+-- a relation between the state of what answers, a frame without a reply, and the state after it
 abbrev pub Loses : Type 0 → Type 1
 Loses H = H → Frame → H → Type 0
 
@@ -143,7 +143,7 @@ module _ {H : Type 0} where
     pub right : IsFrame frame
     pub is : lost mid frame after
 
-  -- answers lead from the one to the other, or end in a loss
+  -- answers lead from the one state to the other, or end in a loss
   abbrev pub LeadsTo : Answered H → Loses H → H → H → List Act → Bool → Type 0
   LeadsTo answered lost before after acts false = Chain answered before acts after
   LeadsTo answered lost before after acts true = IsLoss answered lost before after acts
@@ -164,7 +164,8 @@ pub record Talk : Type 0 where
 abbrev pub peer_of : Option (List ℕ) → Option (List ℕ) → Talk → Peer
 peer_of left out talk = record { left = left; out = out; pending = talk.pending; waiting = talk.waiting }
 
--- bytes came or the last line waits, no frame was answered, and nothing went out; if the connection broke, it did after these acts
+-- bytes came, or the last line waits; no frame was answered, and nothing went out; if the connection broke, it did
+-- after these acts
 pub record IsExchange (old new : Peer) (result : Result Turn TurnFault) : Type 0 where
   pub acts : List Act
   pub left : Peer
@@ -188,7 +189,7 @@ module _ {H : Type 0} where
     pub is : answered old frame reply new
     pub waits : OnOk result (waiting ≡ reply_frame (bytes_of reply))
 
-  -- the same, unless it has no reply
+  -- a frame was answered, and its reply waits, or it has no reply
   abbrev pub Replies : Answered H → Loses H → H → H → Frame → List ℕ → Result Turn TurnFault → Type 0
   Replies answered lost old new frame waiting (Ok turn) = IsReplied answered old new frame waiting (Ok turn)
   Replies answered lost old new frame waiting (Err Broken) = IsReplied answered old new frame waiting (Err Broken)

@@ -9,12 +9,12 @@ use std::alloc::Global;
 #[derive(Clone, Copy, Debug, PartialEq, Eq)]
 pub struct Lost;
 
-/// What answers frames, whatever connection they come from.
+/// What answers frames, whichever connection they come from.
 pub trait Answering {
-    /// The frame was answered with this reply, and what answers went from the one state to the other.
+    /// In the first state the frame was answered with this reply, which led to the second state.
     ghost answered: { Answered Self };
 
-    /// What answers went from the one state to the other, and the frame has no reply.
+    /// In the first state the frame has no reply, which led to the second state.
     ghost lost: { Loses Self };
 
     /// Answers a frame.

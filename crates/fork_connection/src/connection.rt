@@ -19,27 +19,27 @@ pub(crate) enum Turn {
     Answered,
     /// There may be more to do.
     Busy,
-    /// Nothing is to be done before the peer sends or takes something.
+    /// There is nothing to do until the peer sends or takes something.
     Waits,
-    /// All was said.
+    /// The session has ended, and all its bytes are out.
     Over,
 }
 
 /// Why a turn was cut short.
 #[derive(Clone, Copy, Debug, PartialEq, Eq)]
 pub(crate) enum TurnFault {
-    /// The connection cannot go on: its stream failed, or there was no memory for it.
+    /// The connection cannot go on: its stream failed, or memory for it ran out.
     Broken,
     /// A frame's reply must not go out, and no connection can go on.
     Lost,
 }
 
-/// A connection that lives. It has no stream: each turn is given the two ends of one.
+/// An open connection. It has no stream of its own: each turn is given the two ends of one.
 #[derive(Debug, Drop)]
 pub(crate) struct Connection {
     inbox: Inbox,
     outbox: Outbox,
-    // Nothing more is taken of it; it is over when its last line is out.
+    // Nothing more is taken from the peer. The connection is over when its last line is out.
     is_ending: bool,
 }
 
@@ -52,7 +52,7 @@ impl Model for Connection {
 }
 
 impl Connection {
-    /// Nothing came, and nothing is to go out.
+    /// A connection that has received nothing and has nothing to send.
     pub(crate) fn new(alloc: Global) -> Connection
         ensures { result ≡ record { pending = []; waiting = []; is_ending = false } }
     {
@@ -70,7 +70,7 @@ impl Connection {
         self.outbox.len()
     }
 
-    /// Whether a frame has begun to come.
+    /// Whether a frame has begun to arrive.
     pub(crate) fn has_begun(&self) -> bool
         ensures none { result ≡ false → self.now.pending ≡ [] }
         ensures some { result ≡ true → 1 ≤ length self.now.pending }
@@ -122,7 +122,7 @@ impl Connection {
         Ok(Turn::Answered)
     }
 
-    // Has it told that no frame came, and takes nothing more.
+    // Makes the line that reports a bad frame wait for the peer, and takes nothing more from it.
     fn refuse(&mut self, alloc: Global) -> Result<Turn, TurnFault>
         ensures pending { self.new.pending ≡ self.old.pending }
         ensures told { OnOk result (self.new.waiting ≡ last_line HowEnded.BadFrame) }
@@ -160,7 +160,7 @@ impl Connection {
         }
     }
 
-    // Answers at most one frame, or reads once, where nothing waits to go out.
+    // Answers at most one frame, or reads once, if nothing waits to go out.
     fn take<H: Answering, R: Read>(
         &mut self,
         alloc: Global,
@@ -185,9 +185,9 @@ impl Connection {
         }
     }
 
-    /// One turn: what waits goes out, as far as the peer takes it. Where all of it did, and more may be
-    /// taken of the peer, at most one frame is answered. Its reply waits for the next turn, so that its
-    /// request can be synced before. After an `Err` the connection is to be ended.
+    /// Takes one turn. What waits is sent, as far as the peer takes it. If all of it was sent, and more may
+    /// be taken from the peer, at most one frame is answered. Its reply waits for the next turn, so that its
+    /// request can be synced first. After an `Err` the connection must be closed.
     pub(crate) fn turn<H: Answering, R: Read, W: Write>(
         &mut self,
         alloc: Global,

@@ -10,13 +10,13 @@ use std::alloc::{AllocError, Global};
 use std::io::{ErrorKind, Read};
 use std::marker::Model;
 
-/// Within so many bytes the line of a frame must end with its LF.
+/// The line of a frame must end with its LF within this many bytes.
 pub(crate) const LONGEST_LINE: usize = 41;
 
-/// The longest frame.
+/// The greatest length of a frame in bytes.
 pub(crate) const LONGEST_FRAME: usize = MAX_PAYLOAD + LONGEST_LINE;
 
-// How much is asked for before anything of a frame came.
+// How many bytes are asked for before any byte of a frame came.
 const FIRST_READ: usize = 4096;
 
 /// What a read found.
@@ -24,13 +24,13 @@ const FIRST_READ: usize = 4096;
 pub(crate) enum Came {
     /// Bytes.
     Some,
-    /// Nothing as yet.
+    /// Nothing yet.
     Nothing,
     /// The peer sends no more.
     End,
 }
 
-/// What stands next in what came.
+/// What comes next in the bytes received.
 #[derive(Debug, Drop)]
 pub(crate) enum Arrival {
     /// A frame, which was taken.
@@ -41,8 +41,8 @@ pub(crate) enum Arrival {
     Bad,
 }
 
-/// What came from a peer and was not taken yet, in whatever pieces it came. It is at most one unfinished
-/// frame and what one read brings.
+/// The bytes that came from a peer and were not taken yet, in whatever pieces they came. They are at most one
+/// unfinished frame and what one read brings.
 #[derive(Debug, Drop)]
 pub(crate) struct Inbox {
     bytes: Vec<u8>,
@@ -60,7 +60,7 @@ impl Model for Inbox {
 }
 
 impl Inbox {
-    /// Nothing has come yet.
+    /// An inbox that has received nothing.
     pub(crate) fn new(alloc: Global) -> Inbox
         ensures { result ≡ [] }
     {
@@ -69,7 +69,7 @@ impl Inbox {
         }
     }
 
-    /// Whether nothing came that was not taken.
+    /// Whether no bytes are left to take.
     pub(crate) fn is_empty(&self) -> bool
         ensures none { result ≡ true → self.now ≡ [] }
         ensures some { result ≡ false → 1 ≤ length self.now }
@@ -147,7 +147,7 @@ impl Inbox {
         }))
     }
 
-    /// How the session ends if the peer sends no more, and no whole frame is left.
+    /// Returns how the session ends if the peer sends no more, and no whole frame is left.
     pub(crate) fn ended(&self) -> Ended
         ensures { IsPart self.now → EndsAt result self.now }
     {

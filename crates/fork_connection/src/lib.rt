@@ -1,7 +1,6 @@
-//! Many connections at once, in one thread. What came of each and is not a whole frame yet, and the one
-//! reply that it has not taken yet, are kept, and each has one turn in a round.
-//! The frames of a connection are those of its peer's bytes, in whatever pieces these come, and whatever
-//! is done at other connections between.
+//! Many connections at once, in one thread. Each keeps the bytes that are not a whole frame yet and the one
+//! reply that its peer has not taken yet, and has one turn in a round. The frames of a connection are those
+//! of its peer's bytes, in whatever pieces these come, and whatever is done at other connections in between.
 #![tactic(auto)]
 
 mod answering;

@@ -12,13 +12,13 @@ use std::io;
 use std::io::Write;
 use std::marker::Model;
 
-// Data of so many bytes and more are not copied behind their line, but go out from where they lie.
+// Data of at least this many bytes are not copied after their line, but sent from where they are.
 const LONG: usize = 65536;
 
-/// What is still to go out to a peer: at most one reply. If there is none, it holds no memory.
+/// What is still to be sent to a peer: at most one reply. If there is none, it holds no memory.
 #[derive(Debug, Drop)]
 pub(crate) struct Outbox {
-    // What goes out first: the whole frame, or what precedes its data.
+    // What is sent first: the whole frame, or what precedes its data.
     head: Piece,
     body: Piece,
 }
@@ -34,7 +34,7 @@ impl Model for Outbox {
     ghost view = { λ a. a.head ++ a.body };
 }
 
-// What precedes the data of a reply that has so many bytes.
+// What precedes the data in the frame of a reply of `len` bytes.
 fn head_of(alloc: Global, len: usize) -> io::Result<ByteString>
     ensures { IfOk result (λ head. head ≡ decimal len ++ 10 ∷ codes "ok\n") }
 {
@@ -53,7 +53,7 @@ fn frame_of(alloc: Global, reply: Reply) -> Result<ByteString, ReplyFault>
 }
 
 impl Outbox {
-    /// Nothing is to go out.
+    /// An outbox with nothing to send.
     pub(crate) fn new(alloc: Global) -> Outbox
         ensures { result ≡ [] }
     {
@@ -63,14 +63,14 @@ impl Outbox {
         }
     }
 
-    /// How many bytes are to go out.
+    /// How many bytes are still to be sent.
     pub(crate) fn len(&self) -> usize
         ensures { result ≡ length self.now }
     {
         self.head.len() + self.body.len()
     }
 
-    /// Whether nothing is to go out.
+    /// Whether nothing is to be sent.
     pub(crate) fn is_empty(&self) -> bool
         ensures none { result ≡ true → self.now ≡ [] }
         ensures some { result ≡ false → 1 ≤ length self.now }
@@ -78,7 +78,7 @@ impl Outbox {
         self.len() == 0
     }
 
-    // Has data go out next, with what precedes them.
+    // Makes data the next to be sent, after what precedes them.
     fn put_data(&mut self, alloc: Global, content: ByteString) -> Result<(), ReplyFault>
         ensures ok { OnOk result (self.new ≡ reply_frame (codes "ok\n" ++ content)) }
     {
@@ -90,7 +90,7 @@ impl Outbox {
         Ok(())
     }
 
-    // Has these bytes go out next.
+    // Makes these bytes the next to be sent.
     fn put(&mut self, alloc: Global, bytes: ByteString)
         ensures { self.new ≡ bytes }
     {
@@ -98,7 +98,7 @@ impl Outbox {
         self.body = Piece::new(alloc);
     }
 
-    // Has the frame of a reply go out next, in one piece.
+    // Makes the frame of a reply the next to be sent, in one piece.
     fn put_frame(&mut self, alloc: Global, reply: Reply) -> Result<(), ReplyFault>
         ensures ok { OnOk result (self.new ≡ reply_frame (bytes_of reply)) }
     {
@@ -107,7 +107,7 @@ impl Outbox {
         Ok(())
     }
 
-    /// Has a reply go out next.
+    /// Makes a reply the next to be sent.
     pub(crate) fn put_reply(&mut self, alloc: Global, reply: Reply) -> Result<(), ReplyFault>
         ensures ok { OnOk result (self.new ≡ reply_frame (bytes_of reply)) }
     {
@@ -122,7 +122,7 @@ impl Outbox {
         }
     }
 
-    /// Has the line go out that says that no frame came.
+    /// Makes the line that reports a bad frame the next to be sent.
     pub(crate) fn put_bad_frame(&mut self, alloc: Global) -> Result<(), ReplyFault>
         ensures ok { OnOk result (self.new ≡ last_line HowEnded.BadFrame) }
     {
@@ -132,7 +132,7 @@ impl Outbox {
         Ok(())
     }
 
-    /// Writes once, and says how many bytes went; none if the writer takes nothing now (`WouldBlock`).
+    /// Writes once, and returns how many bytes went out; none if the writer takes nothing now (`WouldBlock`).
     pub(crate) fn send<W: Write>(&mut self, alloc: Global, writer: &mut W) -> io::Result<usize>
         ensures went { (gone : List ℕ) × (self.old ≡ gone ++ self.new) × Appends (W.contents writer.old) (W.contents writer.new) gone
             × IfOk result (λ n. n ≡ length gone) }

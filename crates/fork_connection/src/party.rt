@@ -12,13 +12,13 @@ pub struct Party<R, W> {
     pub(crate) writer: W,
     // As far as is known, there may be more to do.
     pub(crate) is_busy: bool,
-    // All was said, or it cannot go on.
+    // The session has ended, or the connection cannot go on.
     pub(crate) is_over: bool,
     pub(crate) frames: u64,
 }
 
 impl<R: Drop, W: Drop> Party<R, W> {
-    /// A connection that begins.
+    /// A new connection.
     pub fn new(alloc: Global, reader: R, writer: W) -> Party<R, W>
         ensures ends { (result.reader ≡ reader) × (result.writer ≡ writer) }
         ensures talk { result.connection ≡ record { pending = []; waiting = []; is_ending = false } }
@@ -51,7 +51,7 @@ impl<R, W> Party<R, W> {
         !self.is_over && self.is_busy
     }
 
-    /// Whether all was said, or the connection cannot go on. Then its stream is to be closed.
+    /// Whether the session has ended, or the connection cannot go on. Its stream must then be closed.
     pub fn is_over(&self) -> bool
         ensures { result ≡ self.now.is_over }
     {
@@ -72,7 +72,7 @@ impl<R, W> Party<R, W> {
         self.connection.waiting()
     }
 
-    /// Whether a frame has begun to come.
+    /// Whether a frame has begun to arrive.
     pub fn has_begun(&self) -> bool
         ensures none { result ≡ false → self.now.connection.pending ≡ [] }
         ensures some { result ≡ true → 1 ≤ length self.now.connection.pending }

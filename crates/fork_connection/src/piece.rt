@@ -7,7 +7,7 @@ use std::io;
 use std::io::{ErrorKind, Write};
 use std::marker::Model;
 
-/// Bytes that go out in order, from where they lie, as far as a writer takes them. Once all are out it
+/// Bytes that are sent in order, from where they are, as far as a writer takes them. Once all are out it
 /// holds no memory.
 #[derive(Debug, Drop)]
 pub(crate) struct Piece {
@@ -29,7 +29,7 @@ impl Model for Piece {
 }
 
 impl Piece {
-    /// Nothing.
+    /// No bytes.
     pub(crate) fn new(alloc: Global) -> Piece
         ensures { result ≡ [] }
     {
@@ -46,7 +46,7 @@ impl Piece {
         Piece { bytes, sent: 0 }
     }
 
-    /// How many bytes are still to go out.
+    /// How many bytes are still to be sent.
     pub(crate) fn len(&self) -> usize
         ensures value { result ≡ length self.now }
         ensures bound { result < 2 ^ 63 }
@@ -54,7 +54,7 @@ impl Piece {
         self.bytes.as_bytes().len() - self.sent
     }
 
-    /// Writes once, and says how many bytes went; none if the writer takes nothing now (`WouldBlock`).
+    /// Writes once, and returns how many bytes went out; none if the writer takes nothing now (`WouldBlock`).
     pub(crate) fn send<W: Write>(&mut self, alloc: Global, writer: &mut W) -> io::Result<usize>
         ensures went { (gone : List ℕ) × (self.old ≡ gone ++ self.new) × Appends (W.contents writer.old) (W.contents writer.new) gone
             × IfOk result (λ n. n ≡ length gone) }

@@ -7,7 +7,7 @@ use crate::party::Party;
 use std::alloc::Global;
 use std::io::{Read, Write};
 
-// Whether it has a turn. If too much waits to go out, one that may ask for more has none.
+// Whether the connection has a turn. If too much waits to be sent, one that may ask for more has none.
 fn has_turn<R, W>(party: &Party<R, W>, is_full: bool) -> bool
     ensures { IsTrue result → party.now.is_over ≡ false }
 {
@@ -17,7 +17,7 @@ fn has_turn<R, W>(party: &Party<R, W>, is_full: bool) -> bool
     !is_full || party.waiting() > 0
 }
 
-// One turn of one that has one.
+// One turn of the connection, if it has one.
 fn serve<H: Answering, R: Read, W: Write>(
     alloc: Global,
     host: &mut H,
@@ -63,7 +63,7 @@ fn serve<H: Answering, R: Read, W: Write>(
     }
 }
 
-// The same, with a count of what waits to go out to all.
+// One turn of the connection, with a count of what waits to be sent to all.
 fn serve_counted<H: Answering, R: Read, W: Write>(
     alloc: Global,
     host: &mut H,
@@ -87,7 +87,7 @@ fn serve_counted<H: Answering, R: Read, W: Write>(
     served
 }
 
-// How many bytes wait to go out to all of them, up to 2^64 - 1.
+// How many bytes wait to be sent to all of them, up to 2^64 - 1.
 fn waiting_in<R, W>(parties: &[Party<R, W>]) -> usize {
     let mut waiting: usize = 0;
     for place in 0..parties.len() {
@@ -96,9 +96,10 @@ fn waiting_in<R, W>(parties: &[Party<R, W>]) -> usize {
     waiting
 }
 
-/// One turn of each connection, in which what waited before goes out and at most one frame of it is
-/// answered, so that none holds up another, and no reply goes out in the round of its frame. While more than
-/// `most` bytes wait to go out in all, no frame is taken. Stops where a reply must not go out. What comes is read through the buffer; if that has no room, nothing is done.
+/// Gives each connection one turn, in which it sends what waited before and answers at most one frame. So no
+/// connection holds up another, and no reply goes out in the round of its frame. While more than `most` bytes
+/// wait to be sent in all, no frame is taken. The round stops at a reply that must not go out. Bytes are read
+/// through the buffer; if it has no room, nothing is done.
 pub fn round<H: Answering, R: Read, W: Write>(
     alloc: Global,
     host: &mut H,

@@ -1,4 +1,4 @@
--- Frames that are written out, as the definitions compute them.
+-- Example frames, as the definitions compute them.
 use Rattle.std.proofs.Common.{◌≡◌, ℕ, List, ◌∷◌, ◌++◌, codes, ap, arith}
 use Rattle.std.proofs.lemmas.Fmt.{decimal_digit}
 use Rattle.fork_frame.specs.declared.asker.Asker.TheVariants.{Tenant, Host}

@@ -22,7 +22,7 @@ is_line_of frame right = record { named = right.named; fits = right.fits; spelle
 pub line_first : (frame : Frame) (rest : List ℕ) → frame_bytes frame ++ rest ≡ line_text (line_of frame) ++ 10 ∷ (frame.payload ++ rest)
 line_first frame rest = append_assoc (line_text (line_of frame)) (10 ∷ frame.payload) rest
 
--- before the first LF stands the line of any frame that comes
+-- the line of any frame that comes precedes the first LF
 pub split_line : (text after rest : List ℕ) (frame : Frame) → All (λ byte. byte ≢ 10) text → IsFrame frame → text ++ 10 ∷ after ≡ frame_bytes frame ++ rest → (text ≡ line_text (line_of frame)) × (after ≡ frame.payload ++ rest)
 split_line text after rest frame plain right is =
     split_unique 10 text after (line_text (line_of frame)) (frame.payload ++ rest) plain (line_plain (line_of frame) _ (is_line_of frame right)) (is ∙ line_first frame rest)
@@ -32,7 +32,7 @@ longer input front rest some parts =
     let whole : length input ≡ length front + length rest = ap (λ (l : List ℕ). length l) parts ∙ length-append front rest in
     omega arith
 
--- bytes without LF, as many as are looked at or all that there were, begin no frame
+-- bytes without LF, as many as are searched or all that there were, begin no frame
 none_in_front : (input front new rest : List ℕ) (frame : Frame) → All (λ byte. byte ≢ 10) front → input ≡ front ++ new → (length front ≡ LONGEST) ⊎ (new ≡ []) → IsFrame frame → input ≡ frame_bytes frame ++ rest → ⊥
 none_in_front input front new rest frame plain parts (inl long) right is =
     let later : length front ≤ length (line_text (line_of frame)) = split_later 10 (line_text (line_of frame)) (frame.payload ++ rest) front new plain (sym parts ∙ is ∙ line_first frame rest) in

@@ -13,7 +13,7 @@ use Rattle.fork_frame.specs.Frame.{IsFrame, IsBad, EndsAt, IsRequestStream, OneF
 use Rattle.fork_frame.proofs.LineLemmas.{line_plain, line_unique}
 use Rattle.fork_frame.proofs.FrameLemmas.{line_of, is_line_of, line_first, split_line}
 
--- two fronts of one length of the same bytes
+-- two fronts of the same bytes are equal if they have the same length
 pub fronts : (a b r s : List ℕ) → length a ≡ length b → a ++ r ≡ b ++ s → (a ≡ b) × (r ≡ s)
 fronts [] [] r s same e = (refl, e)
 fronts [] (y ∷ b) r s same e = absurd (omega arith)
@@ -41,7 +41,7 @@ some_bytes f rest is =
     let parts : length (line_text (line_of f) ++ 10 ∷ (f.payload ++ rest)) ≡ length (line_text (line_of f)) + length (10 ∷ (f.payload ++ rest)) = length-append (line_text (line_of f)) (10 ∷ (f.payload ++ rest)) in
     omega arith
 
--- an input ends where no frame comes
+-- no frame follows where an input ends
 no_more : (ended : Ended) (left rest : List ℕ) (f : Frame) → EndsAt ended left → IsFrame f → left ≡ frame_bytes f ++ rest → ⊥
 no_more Clean left rest f ends right is = some_bytes f rest (sym is ∙ ends)
 no_more BadFrame left rest f ends right is = ends.none f rest right is

@@ -1,4 +1,4 @@
--- A frame's line is read in one way: what precedes its first SP, and a number in decimal.
+-- A frame's line is read in one way only: what precedes its first SP, and a number in decimal.
 use Rattle.std.proofs.Common.{◌≡◌, ◌≢◌, ℕ, ◌<◌, ◌≤◌, ◌^◌, ◌+◌, true, false, All, List, [], ◌∷◌, ◌++◌, codes, length, slice_index, Option, option_map, unwrap_or, refl, sym, ap, ◌∙◌, arith, rules}
 use Rattle.std.specs.Fmt.{decimal}
 use Rattle.std.specs.Str.Parse.{AllDigits, digits_value}
@@ -23,13 +23,13 @@ heads x y xs ys e = cc
 tails : (x y : ℕ) (xs ys : List ℕ) → x ∷ xs ≡ y ∷ ys → xs ≡ ys
 tails x y xs ys e = cc
 
--- what stands before the first such byte, and what after it
+-- what precedes the first occurrence of the byte, and what follows it
 pub split_unique : (byte : ℕ) (a b c d : List ℕ) → All (λ x. x ≢ byte) a → All (λ x. x ≢ byte) c → a ++ byte ∷ b ≡ c ++ byte ∷ d → (a ≡ c) × (b ≡ d)
 split_unique byte a b c d p q e =
     let split = sym (split_once-append byte a b p) ∙ (ap (split_once byte) e ∙ split_once-append byte c d q) in
     (ap (λ (o : Option (List ℕ × List ℕ)). unwrap_or (option_map (λ s. s.0) o) []) split, ap (λ (o : Option (List ℕ × List ℕ)). unwrap_or (option_map (λ s. s.1) o) []) split)
 
--- bytes without it hold no such split
+-- bytes without it have no such split
 pub split_none : (byte : ℕ) (a b t : List ℕ) → All (λ x. x ≢ byte) t → t ≡ a ++ byte ∷ b → ⊥
 split_none byte [] b t p e = All-head (λ x. x ≢ byte) byte b (All-same (λ x. x ≢ byte) _ _ (sym e) p) refl
 split_none byte (x ∷ a) b t p e = split_none byte a b (a ++ byte ∷ b) (All-tail (λ x. x ≢ byte) x (a ++ byte ∷ b) (All-same (λ x. x ≢ byte) _ _ (sym e) p)) refl
@@ -58,7 +58,7 @@ asker_short : (asker : Asker) → IsAsker asker → length (asker_word asker) �
 asker_short (Tenant name) named = named.few
 asker_short Host named = omega arith
 
--- no tenant is called as the host's side is
+-- no tenant has the name of the host's side
 not_host : (name : List ℕ) → IsTenantName name → name ≡ codes "@host" → ⊥
 not_host name named is =
     let bad : true ≡ false = sym named.starts ∙ ap (λ (n : List ℕ). starts_a_name (slice_index n 0)) is in
@@ -81,12 +81,12 @@ pub decimal_unique : (n m : ℕ) → n < 2 ^ 64 → m < 2 ^ 64 → decimal n ≡
 decimal_unique n m small other is =
     ap (λ (o : Option ℕ). unwrap_or o 0) (sym (number_in-decimal n small) ∙ (ap number_in is ∙ number_in-decimal m other))
 
--- a right line's parts are the two sides of its first SP
+-- a valid line's parts are the two sides of its first SP
 pub parts_of : (text word digits : List ℕ) (line : Line) → text ≡ word ++ 32 ∷ digits → All (λ x. x ≢ 32) word → IsFrameLine line text → (word ≡ asker_word line.asker) × (digits ≡ decimal line.len)
 parts_of text word digits line sides plain right =
     split_unique 32 word digits (asker_word line.asker) (decimal line.len) plain (asker_without 32 (omega arith) refl line.asker right.named) (sym sides ∙ right.spelled)
 
--- a text is one line's at most
+-- a text is at most one line
 pub line_unique : (text : List ℕ) (l m : Line) → IsFrameLine l text → IsFrameLine m text → l ≡ m
 line_unique text l m one two =
     let small_l : l.len < 2 ^ 64 = (let f = one.fits in omega arith) in
@@ -96,7 +96,7 @@ line_unique text l m one two =
     let len : l.len ≡ m.len = decimal_unique l.len m.len small_l small_m parts.1 in
     λ i. record { asker = asker i; len = len i }
 
--- a right line has no LF
+-- a valid line has no LF
 pub line_plain : (line : Line) (text : List ℕ) → IsFrameLine line text → All (λ x. x ≢ 10) text
 line_plain line text right =
     let small : line.len < 2 ^ 64 = (let f = right.fits in omega arith) in

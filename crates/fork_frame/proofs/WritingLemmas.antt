@@ -1,4 +1,4 @@
--- Bytes of which a prefix was written.
+-- Bytes with a prefix that was written.
 use Rattle.std.proofs.Common.{◌≡◌, ◌++◌, ◌-◌, ℕ, List, Option, append_assoc, ap, arith, drop, length, length-drop, sym, take, ◌∙◌}
 use Rattle.std.proofs.lemmas.List.{take_all, take-append-drop}
 use Rattle.std.specs.Io.KnownBytes.{Appends}
@@ -23,7 +23,7 @@ front_behind a b c bs cs first w = record {
   written = Appends-trans a b c bs w.front first w.written;
 }
 
--- what is written next stands behind what was written, and before what is left
+-- what is written next follows what was written, and precedes what is left
 pub written_more : (bytes front rest : List ℕ) (n : ℕ) → bytes ≡ front ++ rest → bytes ≡ (front ++ take n rest) ++ take (length rest - n) (drop n rest)
 written_more bytes front rest n whole =
     let behind = take_all (length rest - n) (drop n rest) (omega (arith, length-drop n rest)) in

@@ -26,7 +26,7 @@ pub record AreFrames (frames : List Frame) (bytes : List ℕ) : Type 0 where
   pub right : All IsFrame frames
   pub spelled : bytes ≡ flat_map frame_bytes frames
 
--- what is left where a session ends
+-- what is left when a session ends
 abbrev pub EndsAt : Ended → List ℕ → Type 0
 EndsAt Clean rest = rest ≡ []
 EndsAt BadFrame rest = IsBad rest

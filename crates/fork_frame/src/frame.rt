@@ -28,9 +28,9 @@ pub enum Next {
     Bad,
 }
 
-/// Takes the next frame and not a byte more; retries an interrupted read. The line is read one byte at
-/// a time, so the reader should be buffered. Memory for the payload is allocated as it is received.
-/// After an `Err` nothing more may be read as a frame.
+/// Takes the next frame, and not a byte more. Retries an interrupted read. The line is read one byte at a
+/// time, so the reader should be buffered. Memory for the payload is allocated as it is received. After an
+/// `Err` nothing more may be read as a frame.
 pub fn next_frame<R: Read>(alloc: Global, reader: &mut R) -> Result<Next, FrameFault>
     ensures next { IfOk result (λ next. IsNext (R.remaining reader.old) (R.remaining reader.new) next) }
     ensures memory { IfErr result (λ fault. fault ≡ FrameFault.Memory → IfSome (R.remaining reader.old) BeginsFrame) }

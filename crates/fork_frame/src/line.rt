@@ -13,7 +13,7 @@ pub struct Line {
     pub len: usize,
 }
 
-// Who asks, by this word.
+// The asker that the word names.
 fn asker_of(word: &[u8]) -> Option<Asker>
     ensures found { IfSome result (λ asker. IsAsker asker × (word.now ≡ asker_word asker)) }
     ensures none { IfNone result ((asker : Asker) → IsAsker asker → word.now ≢ asker_word asker) }

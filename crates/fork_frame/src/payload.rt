@@ -7,8 +7,8 @@ use fork_request::ByteString;
 use std::alloc::Global;
 use std::io::Read;
 
-/// Takes a payload of this length, or nothing if the input ends before. Allocates for what was received
-/// and for one read more, never for all that `len` promises.
+/// Takes a payload of `len` bytes, or returns `None` if the input ends before. It allocates only for what was
+/// received and for one more read, never for all that `len` announces.
 pub(crate) fn take_payload<R: Read>(
     alloc: Global,
     reader: &mut R,

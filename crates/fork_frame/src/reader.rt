@@ -56,8 +56,7 @@ fn read_byte<R: Read>(reader: &mut R) -> Result<Option<u8>, FrameFault>
     Ok(Some(one[0]))
 }
 
-/// Appends up to this many bytes and returns how many; none only at the end. They are read into their
-/// final place.
+/// Appends up to `most` bytes and returns how many; none only at the end. They are read into their final place.
 pub(crate) fn read_onto<R: Read>(
     reader: &mut R,
     most: usize,

@@ -10,7 +10,7 @@ use fork_request::Reply;
 use std::alloc::Global;
 use std::io::Write;
 
-// Writes all of it and flushes, so that the peer has it before more is read.
+// Writes all bytes and flushes, so that the peer has them before more is read.
 fn send<W: Write>(writer: &mut W, bytes: &[u8]) -> Result<(), ReplyFault>
     ensures ok { OnOk result (Appends (W.contents writer.old) (W.contents writer.new) bytes.now) }
     ensures err { OnErr result (WritesFront (W.contents writer.old) (W.contents writer.new) bytes.now) }
@@ -47,7 +47,7 @@ fn send_data<W: Write>(writer: &mut W, text: &[u8]) -> Result<(), ReplyFault>
     send(writer, text)
 }
 
-/// Sends the frame of a reply, and flushes. Allocates only for a reply that has no data.
+/// Sends the frame of a reply, and flushes. It allocates only for a reply that has no data.
 pub fn send_reply<W: Write>(alloc: Global, writer: &mut W, reply: Reply) -> Result<(), ReplyFault>
     ensures ok { OnOk result (Appends (W.contents writer.old) (W.contents writer.new) (reply_frame (bytes_of reply))) }
     ensures err { OnErr result (WritesFront (W.contents writer.old) (W.contents writer.new) (reply_frame (bytes_of reply))) }

@@ -18,8 +18,7 @@ fn word_of(asker: &Asker) -> &[u8]
     }
 }
 
-/// Writes a frame as it was received: a frame has one spelling. It allocates nothing and does not
-/// flush.
+/// Writes a frame as it was received, since a frame has one spelling. It allocates nothing and does not flush.
 pub fn write_frame<W: Write>(writer: &mut W, frame: &Frame) -> io::Result<()>
     ensures { OnOk result (Appends (W.contents writer.old) (W.contents writer.new) (frame_bytes frame.now)) }
 {

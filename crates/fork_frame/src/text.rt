@@ -3,7 +3,7 @@ ghost use Rattle.fork_frame.specs.declared.text.TheConstants.{LONGEST};
 
 use std::marker::Model;
 
-/// How many bytes of a line are searched for its LF. The longest valid line has one less, and LF.
+/// How many bytes are searched for the LF of a line. The longest valid line has one less, and then LF.
 pub(crate) const LONGEST: usize = 41;
 
 /// The bytes of a line as they are received, on the stack.

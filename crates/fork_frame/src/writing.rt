@@ -27,7 +27,7 @@ fn write_some<W: Write>(writer: &mut W, bytes: &[u8]) -> Result<usize, ReplyFaul
     Err(ReplyFault::Write)
 }
 
-// Writes all of it. If that fails, a prefix was written.
+// Writes all bytes. If that fails, a prefix of them was written.
 pub(crate) fn put<W: Write>(writer: &mut W, bytes: &[u8]) -> Result<(), ReplyFault>
     ensures ok { OnOk result (Appends (W.contents writer.old) (W.contents writer.new) bytes.now) }
     ensures err { OnErr result (WritesFront (W.contents writer.old) (W.contents writer.new) bytes.now) }

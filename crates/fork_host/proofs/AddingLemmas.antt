@@ -22,11 +22,11 @@ use Rattle.fork_reach.proofs.UseLemmas.{use_of-empty}
 use Rattle.fork_host.specs.Adding.{new_view, refusal_to_add}
 use Rattle.fork_host.specs.declared.add_error.AddError.TheVariants.{There, TooMany, Limit}
 
--- whether the world has the tenant is whether the entries have it
+-- the world has the tenant if and only if the entries have it
 pub known : (w : World) (es : List (List ℕ × View)) (t : List ℕ) (b : Bool) → from_entries es ≡ w → b ≡ is_some (lookup (is_at (name_cmp t)) es) → contains_key w t ≡ b
 known w es t b is found = ap is_some (get_is w es t is) ∙ sym found
 
--- a tenant that the world lacks has no view there
+-- the world has no view of a tenant that it lacks
 pub none_there : (w : World) (t : List ℕ) → contains_key w t ≡ false → get w t ≡ None
 none_there w t absent = by (get w t) absent
   where
@@ -70,14 +70,14 @@ nothing_at {X} name x is = (let no : ⊥ = cc (sym (get-empty {X = X} name_cmp n
 no_offer : (pair : Pair) (offer : Offer) → get (empty {X = Offer} {R = pair_cmp}) pair ≡ Some offer → ⊥
 no_offer pair offer is = (let no : ⊥ = cc (sym (get-empty {X = Offer} pair_cmp pair) ∙ is) in no)
 
--- no objects, each under its own name
+-- an empty map of objects has each under its own name
 pub none_named : IsNamed empty
 none_named = λ name object is. absurd (nothing_at name object is)
 
 no_upload : (upload : UploadValue) → None ≡ Some upload → ⊥
 no_upload upload is = cc
 
--- a new tenant's view is in order, and right
+-- a new tenant's view is in order and right
 pub orderly_new_view : (limit : ℕ) → limit ≤ 1099511627776 → IsOrderly (new_view limit)
 orderly_new_view limit low = record {
   upload = λ upload is. absurd (no_upload upload is);
@@ -103,7 +103,7 @@ right_new_view limit = record {
   upload = λ upload is. absurd (no_upload upload is);
 }
 
--- what holds of each view, in a world with one more tenant
+-- what holds of each view also holds in a world with one more tenant
 pub each_more : (P : View → Type 0) (w : World) (t : List ℕ) (view : View) → P view → ((q : List ℕ) (other : View) → get w q ≡ Some other → P other)
     → (q : List ℕ) (other : View) → get (insert w t view) q ≡ Some other → P other
 each_more P w t view one all q other is = elim (at_key (eq_by_cmp name_cmp q t) view other (get w q) (sym (get-insert name_total w t view q) ∙ is)) [
@@ -139,7 +139,7 @@ right_more w t limit right = each_more IsRight w t (new_view limit) (right_new_v
 none_known : (q : List ℕ) → contains_key (empty {X = View} {R = name_cmp}) q ≡ true → ⊥
 none_known q is = (let no : ⊥ = cc (sym (ap is_some (get-empty {X = View} name_cmp q)) ∙ is) in no)
 
--- a world without tenants
+-- a world without tenants is in order
 pub orderly_none : IsOrderlyWorld empty
 orderly_none = record {
   few = (let none = len-empty name_cmp View in omega arith);

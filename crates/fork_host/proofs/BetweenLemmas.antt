@@ -45,13 +45,13 @@ counts old new (event ∷ front) back [] after text run same none = absurd (omeg
 counts old new (event ∷ front) back (reply ∷ told) after text run same none =
     counts run.0 new front back told after text run.2 (omega (arith, same)) none.1 ∙ ap (λ (places : Places). number_line (length places.names)) (stays old run.0 event reply none.0 run.1)
 
--- so it is between two requests for what a tenant uses
+-- so it is between two queries of what a tenant uses
 pub counts_between : (old new : HostState) (first then : List ℕ) (reply last : Reply) (text : List ℕ) → IsRun old (Asks first AsksUse ∷ HostAsks Census ∷ Asks then AsksUse ∷ []) (reply ∷ Done text ∷ last ∷ []) new
     → text ≡ number_line (length old.vault.places.names)
 counts_between old new first then reply last text run = counts old new (Asks first AsksUse ∷ []) (Asks then AsksUse ∷ []) (reply ∷ []) (last ∷ []) text run refl (λ view. refl, tt)
 
 -- ---- a collection
--- along a run nothing comes to stand whole that was not sent
+-- along a run only what was sent becomes whole on the store
 came_along : (old new : HostState) (events : List Event) (replies : List Reply) (along : IsRun old events replies new) → Trusted old → AllByRecursion IsCalm replies
     → (name : List ℕ) (object : Object) → Whole new.vault.files name object → Whole old.vault.files name object ⊎ Contains (sent_along old events replies new along) object
 came_along old new [] [] along trusted calm name object stands = inl (subst (λ (s : HostState). Whole s.vault.files name object) along stands)

@@ -55,7 +55,7 @@ gains_then sent a b c first then = record {
 pub gains_done : (sent : List Object) (a b : VaultState) (text : List ℕ) → IsBounded sent a b (Done text) → Gains sent a b
 gains_done sent a b text bounded = record { honest = bounded.honest; failures = bounded.counted; stored = λ h. bounded.stored h (λ is. cc) (λ is. cc) }
 
--- and what more objects gain, of which those are some
+-- a list that has all of the objects gains what they gain
 more_sent : {old new : Files} (sent more : List Object) → ((object : Object) → Contains sent object → Contains more object) → StoresAmong sent old new → StoresAmong more old new
 more_sent {old} {new} sent more among stored = λ name object whole. by name object (stored name object whole)
   where
@@ -66,7 +66,7 @@ more_sent {old} {new} sent more among stored = λ name object whole. by name obj
 pub gains_more : (sent more : List Object) (a b : VaultState) → ((object : Object) → Contains sent object → Contains more object) → Gains sent a b → Gains more a b
 gains_more sent more a b among gains = record { honest = gains.honest; failures = gains.failures; stored = λ h. more_sent sent more among (gains.stored h) }
 
--- a reply that is no host fault, or want of memory
+-- the reply is no host fault, or reports lack of memory
 abbrev pub IsQuiet : Reply → Type 0
 IsQuiet reply = (is_host_fault reply ≡ false) ⊎ (reply ≡ Failed Memory)
 
@@ -89,7 +89,7 @@ pub quiet_row : (context : Context) (view new : View) (ask : Ask) (reply : Reply
 quiet_row context view new ask reply (Given told is) = inl (ap is_host_fault told ∙ answer_tells context view ask)
 quiet_row context view new ask reply (Wanting wanting stays) = inr wanting
 
--- what came before the call that was answered so
+-- a bounded call, after calls that gained objects
 pub bounded_after : (sent : List Object) (a b c : VaultState) (reply : Reply) → Gains sent a b → IsBounded sent b c reply → IsBounded sent a c reply
 bounded_after sent a b c reply gains bounded = record {
   honest = bounded.honest ∙ gains.honest;
@@ -117,7 +117,7 @@ bounded_after sent a b c reply gains bounded = record {
       differ = collision.differ;
     }
 
--- and what came behind it
+-- a bounded call, before one that leaves the store
 pub bounded_left : (sent : List Object) (a b c : VaultState) (reply : Reply) → IsBounded sent a b reply → LeavesStore b c → IsBounded sent a c reply
 bounded_left sent a b c reply bounded left = record {
   honest = left.honest ∙ bounded.honest;
@@ -133,7 +133,7 @@ bounded_read sent a b source.Store read = record { honest = read.honest; counted
 bounded_read sent a b source.Damaged read = record { honest = read.honest; counted = read.counted; undamaged = λ h is. read.undamaged h refl; collided = λ h is. absurd (cc); stored = λ h _ _. same_files sent (read.files h) }
 bounded_read sent a b source.Memory read = record { honest = read.honest; counted = read.counted; undamaged = λ h is. cc; collided = λ h is. absurd (cc); stored = λ h _ _. same_files sent (read.files h) }
 
--- one object was asked for, and it was found, or was not
+-- one object was asked for, and was found or not
 pub bounded_found : (a b : VaultState) → AsksStore a b None → (IsTrue a.honest → b.files ≡ a.files) → IsBounded [] a b (Done [])
 bounded_found a b asked same = record { honest = asked.honest; counted = asked.counted; undamaged = λ h is. cc; collided = λ h is. absurd (cc); stored = λ h _ _. same_files [] (same h) }
 
@@ -143,7 +143,7 @@ bounded_asked a b ledger.Memory asked same apart = record { honest = asked.hones
 bounded_asked a b ledger.Damaged asked same apart = record { honest = asked.honest; counted = asked.counted; undamaged = λ h is. asked.undamaged h refl; collided = λ h is. absurd (cc); stored = λ h _ _. same_files [] (same h) }
 bounded_asked a b ledger.Collision asked same apart = absurd (apart refl)
 
--- objects that were not staged
+-- objects could not be staged
 bounded_all : (sent : List Object) (a b : VaultState) (fault : VaultFault) → AsksStore a b (Some fault) → (IsTrue a.honest → fault ≡ ledger.Collision → MeetsAmong sent a.files)
     → (IsTrue a.honest → fault ≡ ledger.Collision → StoresAmong sent a.files b.files) → IsBounded sent a b (Failed (vault_told fault))
 bounded_all sent a b ledger.Store asked meets still = record { honest = asked.honest; counted = asked.counted; undamaged = λ h is. cc; collided = λ h is. absurd (cc); stored = λ h no_store _. absurd (no_store refl) }
@@ -171,13 +171,13 @@ bounded_all sent a b ledger.Collision asked meets still = record {
       differ = met.differ;
     }
 
--- the same of a call's result
+-- stated for a call's result
 pub bounded_result : {A : Type 0} (r : Result A VaultFault) (sent : List Object) (a b : VaultState) → AsksStore a b (fault_in r) → (IsTrue a.honest → IfErr r (λ fault. fault ≡ ledger.Collision → MeetsAmong sent a.files))
     → (IsTrue a.honest → IfErr r (λ fault. fault ≡ ledger.Collision → StoresAmong sent a.files b.files)) → IfErr r (λ fault. IsBounded sent a b (Failed (vault_told fault)))
 bounded_result (Ok done) sent a b asked meets still = tt
 bounded_result (Err fault) sent a b asked meets still = bounded_all sent a b fault asked meets still
 
--- a step is bounded by any objects among which those are that were sent
+-- a step within bounds for some objects is within bounds for any list that has them
 pub bounded_more : (sent more : List Object) (a b : VaultState) (reply : Reply) → ((object : Object) → Contains sent object → Contains more object) → IsBounded sent a b reply → IsBounded more a b reply
 bounded_more sent more a b reply among bounded = record {
   honest = bounded.honest;

@@ -23,7 +23,7 @@ pub bounded : (old mid : HostState) (event : Event) (reply : Reply) → FaultsWi
 bounded old mid (Asks tenant ask) reply within = within
 bounded old mid (HostAsks request) reply within = within.1
 
--- two objects that met in the first step, or in those behind it
+-- two objects that met in the first step also met in the first and the later ones
 met_here : (here there : List Object) (files : Files) → IsCollision here files → IsCollision (here ++ there) files
 met_here here there files c = record { object = c.object; other = c.other; comes = Contains-append_left here there c.object c.comes; met = by c.met; named = c.named; differ = c.differ }
   where

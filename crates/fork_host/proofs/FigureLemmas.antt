@@ -20,11 +20,11 @@ shown_lines : (vault : VaultState) (es : Rows) → lines_by vault es ≡ flat_ma
 shown_lines vault [] = refl
 shown_lines vault (e ∷ es) = ap (λ rest. figure_line e.0 (shown e.1 vault e.0) ++ rest) (shown_lines vault es)
 
--- one account more
+-- one more account
 pub line_more : (vault : VaultState) (es : Rows) (e : List ℕ × Account) → lines_by vault (es ++ e ∷ []) ≡ lines_by vault es ++ figure_line e.0 (shown e.1 vault e.0)
 line_more vault [] e = append-nil (figure_line e.0 (shown e.1 vault e.0))
 line_more vault (x ∷ es) e = ap (λ rest. figure_line x.0 (shown x.1 vault x.0) ++ rest) (line_more vault es e) ∙ sym (append_assoc (figure_line x.0 (shown x.1 vault x.0)) (lines_by vault es) (figure_line e.0 (shown e.1 vault e.0)))
 
--- those of all accounts are those of the world
+-- the lines of all accounts are those of the world
 pub all_lines : (state : HostState) → lines_by state.vault (entries state.accounts) ≡ figure_lines (world_of state)
 all_lines state = shown_lines state.vault (entries state.accounts) ∙ ap (flat_map (λ (e : List ℕ × View). figure_line e.0 e.1)) (sym (entries_world state))

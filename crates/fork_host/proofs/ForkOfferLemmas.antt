@@ -18,7 +18,7 @@ use Rattle.fork_host.specs.declared.meeting.Met.{Met}
 use Rattle.fork_host.specs.declared.meeting.Met.TheVariants.{Nothing, Offer as Offered, Rows}
 use Rattle.fork_host.proofs.ForkedLemmas.{all_named}
 
--- what is met, where all are names: the offer, or none
+-- what is met if all words are valid names: the offer, or none
 pub offer_met : (context : Context) (view : View) (giver word copy : List ℕ) (vault : VaultState) (who taken : List ℕ) (repository : Repository) → is_plain_name MAX_TENANT_NAME giver ≡ true → is_plain_name MAX_REPOSITORY_NAME word ≡ true → is_plain_name MAX_REPOSITORY_NAME copy ≡ true
     → MeetsOffer vault context giver word who repository → taken ≡ copy → fork_offer_answer context view giver word copy ≡ offer_taken view taken (offered (visible_in vault who) repository)
 offer_met context view giver word copy vault who taken repository one two three met same =

@@ -56,7 +56,7 @@ use Rattle.fork_host.proofs.StagedLemmas.{staged_kept_still}
 use Rattle.fork_host.proofs.TakenFromLemmas.{taken_alike, taken_beside, taken_none}
 
 -- ---- repositories
--- what holds of one that comes and of each that was there holds of all
+-- what holds of a new repository and of each existing one holds of all
 each_repository : (P : List ℕ → Repository → Type 0) (repositories : Repositories) (word : List ℕ) (new : Repository) → P word new → ((name : List ℕ) (repository : Repository) → get repositories name ≡ Some repository → P name repository)
     → (name : List ℕ) (repository : Repository) → get (insert repositories word new) name ≡ Some repository → P name repository
 each_repository P repositories word new one others name repository is =
@@ -65,7 +65,7 @@ each_repository P repositories word new one others name repository is =
       | inr there ↦ others name repository there
     ]
 
--- one that is taken out again where none was leaves what was there
+-- adding a repository under an unused name and removing it leaves the map
 pub taken_out : (repositories : Repositories) (word : List ℕ) (new : Repository) → contains_key repositories word ≡ false → remove (insert repositories word new) word ≡ repositories
 taken_out repositories word new absent = same_map name_total name_exact _ _ (λ q.
     get-remove name_total (insert repositories word new) word q ∙ ap (cond (eq_by_cmp name_cmp q word) None) (get-insert name_total repositories word new q) ∙ by q (eq_by_cmp name_cmp q word) refl)
@@ -78,23 +78,23 @@ taken_out repositories word new absent = same_map name_total name_exact _ _ (λ 
     by q true tied = none (get repositories q) (ap (contains_key repositories) (tied_names q word tied) ∙ absent)
     by q false apart = refl
 
--- so a tenant's account is what it was
+-- so a tenant's account is as it was
 pub given_back : (account mid now : Account) (copy key : List ℕ) (repository : Repository) → contains_key account.repositories copy ≡ false → key ≡ copy → mid ≡ record account { repositories = insert account.repositories copy repository }
     → now ≡ record mid { repositories = remove mid.repositories key } → now ≡ account
 given_back account mid now copy key repository absent same put taken =
     taken ∙ (λ i. record (put i) { repositories = remove (put i).repositories (same i) }) ∙ ap (λ r. record account { repositories = r }) (taken_out account.repositories copy repository absent)
 
--- how a fault of the vault is told
+-- the fault that a reply reports for one of the vault
 pub fault_of_adopting : (fault : VaultFault) → (fault ≡ ledger.Memory) ⊎ (fault ≡ ledger.Damaged) → (vault_told fault ≡ Memory) ⊎ (vault_told fault ≡ Damaged)
 fault_of_adopting fault (inl memory) = inl (ap vault_told memory)
 fault_of_adopting fault (inr damaged) = inr (ap vault_told damaged)
 
--- ---- references over objects that come
+-- ---- references over more objects
 some_kind : (o : Option Object) → is_some (option_map (λ object. object.kind) o) ≡ is_some o
 some_kind None = refl
 some_kind (Some object) = refl
 
--- references hold over others, where what they point at is of the same kind among them
+-- references are valid over other objects if their targets have the same kinds there
 references_alike : (objects others : Objects) (references : References) → ((reference target : List ℕ) → get references reference ≡ Some target → contains_key objects target ≡ true → kind_in others target ≡ kind_in objects target)
     → AreReferences objects references → AreReferences others references
 references_alike objects others references kinds right = record {
@@ -110,15 +110,15 @@ references_alike objects others references kinds right = record {
   few = right.few;
 }
 
--- they hold over more objects
+-- they are valid over more objects
 references_more : (objects others : Objects) (references : References) → ((name : List ℕ) → contains_key objects name ≡ true → get others name ≡ get objects name) → AreReferences objects references → AreReferences others references
 references_more objects others references grown = references_alike objects others references (λ reference target is there. ap (option_map (λ object. object.kind)) (grown target there))
 
--- what a reference points at is one of their values
+-- the target of a reference is one of the values
 target_among : (references : References) (reference target : List ℕ) → get references reference ≡ Some target → Contains (values references) target
 target_among references reference target is = found_value name_cmp reference target (entries references) (sym (get-entries references reference) ∙ is)
 
--- an object that is found among others under its name is of its kind there
+-- an object found under its name among more objects has the same kind there
 found_among : (some all : Objects) (name : List ℕ) → AreAmong some all → contains_key some name ≡ true → get all name ≡ get some name
 found_among some all name among there = by (get some name) refl there
   where
@@ -126,7 +126,7 @@ found_among some all name among there = by (get some name) refl there
     by None is here = absurd (cc)
     by (Some object) is here = among name object is
 
--- ---- a view that comes to have a repository, and to see more
+-- ---- a view that gets a repository and sees more
 few_more : (here : Bool) (n : ℕ) → nat_le MAX_REPOSITORIES n ≡ false → n ≤ MAX_REPOSITORIES → cond here n (n + 1) ≤ MAX_REPOSITORIES
 few_more true n room few = few
 few_more false n room few = grind (arith, nat_tests)
@@ -166,7 +166,7 @@ not_within limit n is = grind (arith, nat_tests)
 pub within_it : (limit n : ℕ) → nat_le n limit ≡ true → n ≤ limit
 within_it limit n is = grind (arith, nat_tests)
 
--- where a repository may come, what is offered fits or it does not
+-- if a repository can be added, what is offered fits or does not fit
 taken_row : (view : View) (copy : List ℕ) (offer : Offer) → contains_key view.repositories copy ≡ false → nat_le MAX_REPOSITORIES (len view.repositories) ≡ false → use_of (joined view.objects offer.objects) ≤ view.limit
     → offer_taken view copy offer ≡ (Done [], record view { repositories = insert view.repositories copy offer.repository; objects = joined view.objects offer.objects })
 taken_row view copy offer absent room fits =
@@ -181,7 +181,7 @@ full_row view copy offer absent room above =
     (Refused (RepositoryExists copy), view) (Refused TooMany, view) (Refused OverQuota, view) (Done [], record view { repositories = insert view.repositories copy offer.repository; objects = joined view.objects offer.objects }) absent room
     ∙ ap (λ full. cond {A = Reply × View} full (Refused OverQuota, view) (Done [], record view { repositories = insert view.repositories copy offer.repository; objects = joined view.objects offer.objects })) (exceeds view.limit (use_of (joined view.objects offer.objects)) above)
 
--- what stands against a new repository, where something does
+-- why a new repository is refused, if it is
 abbrev refusal_of : Bool → Bool → List ℕ → Option Refusal
 refusal_of exists many copy = cond exists (Some (RepositoryExists copy)) (cond many (Some TooMany) None)
 
@@ -197,14 +197,14 @@ refused_row view copy offer refusal is =
     by false true w is = same TooMany refusal is
     by false false w is = absurd (cc)
 
--- and where nothing does
+-- and if it is not refused
 pub none_stands : (exists many : Bool) (copy : List ℕ) → refusal_of exists many copy ≡ None → (exists ≡ false) × (many ≡ false)
 none_stands true many copy is = absurd (cc)
 none_stands false true copy is = absurd (cc)
 none_stands false false copy is = (refl, refl)
 
--- ---- a vault that was read alone
--- the view has the measures that it had, and over an honest store it is the same
+-- ---- a vault that was only read
+-- the view has the measures that it had, and over an honest store it is unchanged
 pub read_safe_in : (tenant : List ℕ) (account : Account) (old new : VaultState) (reply : Reply) → shape_of new.tenants ≡ shape_of old.tenants → IsBounded [] old new reply → IsSafe (IsBounded [] old new) (shown account old tenant) reply (shown account new tenant)
 read_safe_in tenant account old new reply shape bounded =
     safe_left (IsBounded [] old new) account.repositories account.repositories (visible_in old tenant) (visible_in new tenant) (shown account old tenant) (shown account new tenant) account.limit reply refl
@@ -214,7 +214,7 @@ pub read_yields : (row : Reply × View) (tenant : List ℕ) (account : Account) 
     → Yields row (shown account old tenant) reply (shown account new tenant)
 read_yields row tenant account old new fault reply kept told honest = Faulted fault told (ap (λ tenants. plain (seen_by account (private_of tenants tenant))) (kept honest))
 
--- ---- the walk, and what becomes of the offer behind it
+-- ---- the walk, and what happens to the offer after it
 -- a vault was read for what references reach of what a giver sees, and these names were found
 pub record Walked (old mid : VaultState) (giver : List ℕ) (references : References) (names : List ℕ → Bool) : Type 0 where
   pub shape : shape_of mid.tenants ≡ shape_of old.tenants
@@ -223,13 +223,13 @@ pub record Walked (old mid : VaultState) (giver : List ℕ) (references : Refere
   pub rooted : (name : List ℕ) → Contains (values references) name → contains_key (visible_in old giver) name ≡ true → names name ≡ true
   pub found : IsTrue old.honest → (name : List ℕ) → names name ≡ is_reached (linked_names (visible_in old giver)) (visible_in old giver) (values references) name
 
--- over an honest store they are what the offer holds
+-- over an honest store these are the objects that the offer holds
 walked_objects : (old mid : VaultState) (giver : List ℕ) (references : References) (names : List ℕ → Bool) → Walked old mid giver references names → IsTrue old.honest
     → retain_keys (visible_in mid giver) names ≡ reached_by (visible_in old giver) references
 walked_objects old mid giver references names walked honest =
     ap (λ tenants. retain_keys (private_of tenants giver).visible names) (walked.kept honest) ∙ ap (retain_keys (visible_in old giver)) (λ i name. walked.found honest name i)
 
--- and over any store references that hold over what the giver sees hold where its objects of these names are seen
+-- over any store, references that are valid over what the giver sees are valid over any objects that include those of these names
 walked_references : (old mid : VaultState) (giver : List ℕ) (references : References) (names : List ℕ → Bool) (all : Objects) → Walked old mid giver references names → AreAmong (retain_keys (visible_in mid giver) names) all
     → AreReferences (visible_in old giver) references → AreReferences all references
 walked_references old mid giver references names all walked among =
@@ -261,7 +261,7 @@ module _ (tenant giver copy : List ℕ) (repository : Repository) (names : List 
   here : contains_key mid.tenants tenant ≡ true
   here = same_tenants_there old.tenants mid.tenants tenant walked.shape ∙ there
 
-  -- the tenant's part alone was used
+  -- only the tenant's part was used
   pub forked_own : IsDone → IsOwn tenant old new
   forked_own forked = own_then tenant old mid new (own_read old mid tenant walked.shape walked.kept walked.read.honest) (by forked)
     where
@@ -281,7 +281,7 @@ module _ (tenant giver copy : List ℕ) (repository : Repository) (names : List 
   forked_upload (Full told above has same) = ap (λ (a : Account). a.upload) has
   forked_upload (Unforked fault told is lacks has same) = ap (λ (a : Account). a.upload) has
 
-  -- and the repository came
+  -- and the repository was added
   pub forked_repositories : IsDone → is_done reply ≡ true → now.repositories ≡ insert account.repositories copy repository
   forked_repositories (Forked told fits has set among) done = ap (λ (a : Account). a.repositories) has
   forked_repositories (Full told above has same) done = (let no : false ≡ true = sym (ap is_done told) ∙ done in absurd (cc))
@@ -297,7 +297,7 @@ module _ (tenant giver copy : List ℕ) (repository : Repository) (names : List 
       subst (λ upload. IsStaged old.honest upload (staged_in new tenant)) (sym (forked_upload forked))
       (subst (IsStaged old.honest account.upload) (sym (still_staged forked)) (staged_kept_still old mid tenant account.upload (staged_read old mid tenant walked.shape walked.kept) staged))
 
-  -- what comes is what the giver sees
+  -- what is added is what the giver sees
   same_seen : (t : List ℕ) → measures_of (visible_in mid t) ≡ measures_of (visible_in old t)
   same_seen t = ap (λ (p : Measures × Measures). p.0) (same_measures old.tenants mid.tenants t walked.shape)
 
@@ -312,7 +312,7 @@ module _ (tenant giver copy : List ℕ) (repository : Repository) (names : List 
   forked_takes (Full told above has same) = none_taken same
   forked_takes (Unforked fault told is lacks has same) = none_taken same
 
-  -- the store was read, and a damaged one alone faults
+  -- the store was read, and only a damaged one gives a fault
   gains : Gains [] old new
   gains = gains_then [] old mid new (gains_read [] old mid walked.read) (gains_left [] mid new left)
 
@@ -324,11 +324,11 @@ module _ (tenant giver copy : List ℕ) (repository : Repository) (names : List 
       subst (IsBounded [] old new) (sym (told ∙ ap (λ f. Failed f) damaged))
       (bounded_damaged old new gains (λ honest. memory_apart (sym damaged ∙ lacks (walked.read.honest ∙ honest))))
 
-  -- the view where nothing changes
+  -- the view if nothing changes
   safe_same : new.tenants ≡ mid.tenants → now ≡ account → IsBounded [] old new reply → IsSafe (IsBounded [] old new) (shown account old tenant) reply (shown now new tenant)
   safe_same same has bounded = subst (λ a. IsSafe (IsBounded [] old new) (shown account old tenant) reply (shown a new tenant)) (sym has) (read_safe_in tenant account old new reply (ap shape_of same ∙ walked.shape) bounded)
 
-  -- and where the repository came, with what it holds
+  -- and if the repository and what it holds were added
   orderly_forked : nat_le MAX_REPOSITORIES (len account.repositories) ≡ false → IsRepositoryName copy → IsBranch repository.head → AreReferences (visible_in old giver) repository.references
       → use_of (joined (visible_in mid tenant) (retain_keys (visible_in mid giver) names)) ≤ account.limit → new.tenants ≡ at_tenant mid.tenants tenant (with_adopted (retain_keys (visible_in mid giver) names))
       → AreAmong (retain_keys (visible_in mid giver) names) (visible_in new tenant) → IsOrderly (shown account old tenant) → IsOrderly (shown (record account { repositories = insert account.repositories copy repository }) new tenant)
@@ -351,7 +351,7 @@ module _ (tenant giver copy : List ℕ) (repository : Repository) (names : List 
   forked_safe room named head holds (Full told above has same) = safe_same same has (forked_bounded (Full told above has same))
   forked_safe room named head holds (Unforked fault told is lacks has same) = safe_same same has (forked_bounded (Unforked fault told is lacks has same))
 
-  -- over an honest store the reply and what is plain of the view are those of the row
+  -- over an honest store, the reply and the plain part of the view are those of the row
   all_same : new.tenants ≡ mid.tenants → now ≡ account → IsTrue old.honest → plain (shown now new tenant) ≡ plain (shown account old tenant)
   all_same same has honest = ap (λ a. plain (shown a new tenant)) has ∙ ap (λ tenants. plain (seen_by account (private_of tenants tenant))) (same ∙ walked.kept honest)
 
@@ -383,7 +383,7 @@ module _ (tenant giver copy : List ℕ) (repository : Repository) (names : List 
   forked_yields absent room (Unforked fault told is lacks has same) honest = Faulted fault told (all_same same has honest)
 
 -- ---- the words
--- a reply that is no host fault but want of memory, and leaves all
+-- a reply that is no host fault except lack of memory, and leaves everything
 pub safe_quiet : (vault : VaultState) (view : View) (reply : Reply) → IsQuiet reply → IsSafe (IsBounded [] vault vault) view reply view
 safe_quiet vault view reply quiet = record { orderly = λ before. before; kept = λ _. refl; faults = bounded_still [] vault reply quiet }
 
@@ -395,7 +395,7 @@ pub bad_undone : (reply : Reply) (word : List ℕ) → (reply ≡ Refused (BadNa
 bad_undone reply word (inl told) done = (let no : false ≡ true = sym (ap is_done told) ∙ done in cc)
 bad_undone reply word (inr wanting) done = (let no : false ≡ true = sym (ap is_done wanting) ∙ done in cc)
 
--- a word that is no name, told so or for want of memory
+-- a word that is no name: the reply says so, or reports lack of memory
 pub yields_bad : (row : Reply × View) (view : View) (word : List ℕ) (reply : Reply) → row ≡ (Refused (BadName word), view) → (reply ≡ Refused (BadName word)) ⊎ (reply ≡ Failed Memory) → Yields row view reply view
 yields_bad row view word reply is (inl told) = Yielded (told ∙ sym (ap (λ (r : Reply × View). r.0) is)) (sym (ap (λ (r : Reply × View). plain r.1) is))
 yields_bad row view word reply is (inr wanting) = Lacking wanting refl

@@ -15,18 +15,18 @@ use Rattle.state_text.specs.Adding.{AreBefore}
 use Rattle.state_text.specs.States.{Ascend}
 use Rattle.fork_host.proofs.KeepingLemmas.{before_next_by}
 
--- those at the front, one of them, and those behind it
+-- those at the front, one of them, and those after it
 pub parts_at : {A : Type 0} (xs : List A) (i : ℕ) (x : A) → i < length xs → x ≡ get_or xs i x → xs ≡ take i xs ++ x ∷ drop (i + 1) xs
 parts_at xs i x inside is = sym (take-append-drop i xs) ∙ ap (λ back. take i xs ++ back) (drop_more xs i x inside ∙ ap (λ y. y ∷ drop (i + 1) xs) (sym is))
 
 pub taken_more : {A : Type 0} (xs : List A) (i : ℕ) (x : A) → i < length xs → x ≡ get_or xs i x → take (i + 1) xs ≡ take i xs ++ x ∷ []
 taken_more xs i x inside is = take_more xs i x inside ∙ ap (λ y. take i xs ++ y ∷ []) (sym is)
 
--- where names ascend, those at the front stand before the next
+-- if names ascend, those at the front come before the next
 pub next_by : {A : Type 0} (name : A → List ℕ) (xs : List A) (i : ℕ) (x : A) → Ascend (map name xs) → i < length xs → x ≡ get_or xs i x → AreBefore (map name (take i xs)) (name x)
 next_by name xs i x ascend inside is = before_next_by name (take i xs) x (drop (i + 1) xs) (subst (λ ys. Ascend (map name ys)) (parts_at xs i x inside is) ascend)
 
--- a name behind the others is put behind them
+-- a name after all others is inserted at the end
 set_behind : (names : List (List ℕ)) (name : List ℕ) → AreBefore names name → insert_key name_cmp names name ≡ names ++ name ∷ []
 set_behind [] name before = refl
 set_behind (first ∷ names) name before =
@@ -37,13 +37,13 @@ same_names : (names : List (List ℕ)) → map (λ name. name) names ≡ names
 same_names [] = refl
 same_names (name ∷ names) = ap (λ ks. name ∷ ks) (same_names names)
 
--- a set of names that ascend, as the next one is put into it
+-- a set of ascending names when the next name is inserted
 pub set_more : (names : List (List ℕ)) (i : ℕ) (name : List ℕ) (old new : List (List ℕ)) → Ascend names → i < length names → name ≡ get_or names i name → new ≡ insert_key name_cmp old name → old ≡ take i names → new ≡ take (i + 1) names
 set_more names i name old new ascend inside is put so_far =
     let before = subst (λ ks. AreBefore ks name) (same_names (take i names)) (next_by (λ k. k) names i name (subst Ascend (sym (same_names names)) ascend) inside is) in
     put ∙ ap (λ ks. insert_key name_cmp ks name) so_far ∙ set_behind (take i names) name before ∙ sym (taken_more names i name inside is)
 
--- repositories of a list, as the next one comes to them
+-- the repositories of a list when the next one is added
 pub gathered_more : (list : List (List ℕ × Repository)) (old new : Repositories) (i : ℕ) (item : List ℕ × Repository) (name : List ℕ) (repository : Repository) → Ascend (map (λ row. row.0) list) → i < length list → item ≡ get_or list i item
     → name ≡ item.0 → repository ≡ item.1 → new ≡ insert old name repository → entries old ≡ take i list → entries new ≡ take (i + 1) list
 gathered_more list old new i item name repository ascend inside is named same set so_far =

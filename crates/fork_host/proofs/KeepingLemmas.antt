@@ -28,19 +28,19 @@ unfolding IsStrictlySortedBy
 ascend_first [] ys sorted = tt
 ascend_first (x ∷ xs) ys sorted = (each_before _ xs ys sorted.0, ascend_first xs ys sorted.1)
 
--- of names in order, those at the front stand before the one behind them
+-- of names in order, those at the front come before the next one
 pub before_next : (xs : List (List ℕ)) (x : List ℕ) (ys : List (List ℕ)) → Ascend (xs ++ x ∷ ys) → AreBefore xs x
 before_next xs x ys sorted = before_last xs x (ascend_first (xs ++ x ∷ []) ys (subst Ascend (sym (append_assoc xs (x ∷ []) ys)) sorted))
 
--- the same by names of what stands in order
+-- of elements in order by their names
 pub before_next_by : {A : Type 0} (name : A → List ℕ) (xs : List A) (x : A) (ys : List A) → Ascend (map name (xs ++ x ∷ ys)) → AreBefore (map name xs) (name x)
 before_next_by name xs x ys sorted = before_next (map name xs) (name x) (map name ys) (subst Ascend (map-append name xs (x ∷ ys)) sorted)
 
--- one of them passes from what is left to what is there
+-- one element moves from those that are left to those so far
 pub moved : {A : Type 0} (xs : List A) (x : A) (ys : List A) → (xs ++ x ∷ []) ++ ys ≡ xs ++ x ∷ ys
 moved xs x ys = append_assoc xs (x ∷ []) ys
 
--- those so far and those that are left are all, where one of these comes next
+-- those so far and those that are left are all, if one of these comes next
 pub so_far : {A : Type 0} (xs : List A) (x : A) (ys left all : List A) → left ≡ x ∷ ys → xs ++ left ≡ all → xs ++ x ∷ ys ≡ all
 so_far xs x ys left all next are = ap (λ rows. xs ++ rows) (sym next) ∙ are
 
@@ -68,7 +68,7 @@ pub all_states : (state : HostState) → states_by state.vault (entries state.ac
 unfolding world_of
 all_states state = ap (map state_kept) (sym (entries-from_sorted name_cmp (map (entry_shown state.vault) (entries state.accounts)) (subst T (sym (same_sorted state.vault (entries state.accounts))) (entries_sorted state.accounts))))
 
--- one account more
+-- one more account
 pub state_more : (vault : VaultState) (es : Rows) (e : List ℕ × Account) → states_by vault (es ++ e ∷ []) ≡ states_by vault es ++ state_kept (e.0, shown e.1 vault e.0) ∷ []
 state_more vault es e = ap (map state_kept) (map_behind (entry_shown vault) es e) ∙ map_behind state_kept (map (entry_shown vault) es) (entry_shown vault e)
 
@@ -79,7 +79,7 @@ names_of_states vault (e ∷ es) = ap (λ l. e.0 ∷ l) (names_of_states vault e
 as_many : (vault : VaultState) (es : Rows) → length (states_by vault es) ≡ length es
 as_many vault es = length-map (map (entry_shown vault) es) state_kept ∙ length-map es (entry_shown vault)
 
--- the states so far stand before the next account's
+-- the states so far come before the next account's
 pub states_before : (state : HostState) (es : Rows) (e : List ℕ × Account) (rest : Rows) → es ++ e ∷ rest ≡ entries state.accounts → AreBefore (map (λ t. t.name) (states_by state.vault es)) e.0
 states_before state es e rest are =
     subst (λ names. AreBefore names e.0) (sym (names_of_states state.vault es)) (before_next_by (λ row. row.0) es e rest (subst (λ rows. Ascend (map (λ row. row.0) rows)) (sym are) (keys_ascend state.accounts)))

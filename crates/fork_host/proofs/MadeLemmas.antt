@@ -29,7 +29,7 @@ use Rattle.fork_host.specs.Made.{Made, entry_of, made_of, made_shown, offer_told
 use Rattle.fork_host.specs.Rows.{Gives, Given, plain}
 use Rattle.fork_host.specs.Shown.{Account, seen_by}
 
--- ---- what is shown, and the repositories of it
+-- ---- what is shown, and its repositories
 abbrev repository_of : Offer → Repository
 repository_of offer = offer.repository
 
@@ -54,7 +54,7 @@ same_made made objects others = made_again others made ∙ sym (made_again objec
 pub none_shown : (objects : Objects) → made_shown objects empty ≡ empty
 none_shown objects = map_values_empty pair_total pair_exact (offered objects)
 
--- where none are shown none are kept, and so none are shown whatever is seen
+-- if none are shown, none are kept, and so none are shown whatever is seen
 pub none_made : (objects others : Objects) (made : Made) → made_shown objects made ≡ empty → made_shown others made ≡ empty
 none_made objects others made none =
     ap (made_shown others) (sym (made_again objects made) ∙ ap made_of none ∙ map_values_empty pair_total pair_exact repository_of) ∙ none_shown others
@@ -82,7 +82,7 @@ shown_kept objects made pair offer is = by (get made pair) refl (sym (get_shown 
 pub kept_shown : (objects : Objects) (made : Made) (pair : Pair) (repository : Repository) → get made pair ≡ Some repository → get (made_shown objects made) pair ≡ Some (offered objects repository)
 kept_shown objects made pair repository is = get_shown objects made pair ∙ ap (option_map (offered objects)) is
 
--- one more, and one that goes
+-- one more offer, and one less
 pub shown_insert : (objects : Objects) (made : Made) (pair : Pair) (repository : Repository) → made_shown objects (insert made pair repository) ≡ insert (made_shown objects made) pair (offered objects repository)
 shown_insert objects made pair repository = map_values_insert pair_total pair_exact (offered objects) made pair repository
 
@@ -99,7 +99,7 @@ same_keys : {K X Y : Type 0} (f : X → Y) (es : List (K × X)) → map (λ e. e
 same_keys f [] = refl
 same_keys f (e ∷ es) = ap (λ ks. e.0 ∷ ks) (same_keys f es)
 
--- they stand under the same pairs
+-- the same pairs are keys of both
 pub keys_shown : (objects : Objects) (made : Made) → keys (made_shown objects made) ≡ keys made
 keys_shown objects made = ap (map (λ e. e.0)) (entries_map_values (offered objects) made) ∙ same_keys (offered objects) (entries made)
 
@@ -123,7 +123,7 @@ there_of : (o : Option Offer) → is_some (option_map repository_of o) ≡ is_so
 there_of None = refl
 there_of (Some offer) = refl
 
--- where the repositories are the same, offers stand under the same pairs
+-- if the repositories are the same, offers have the same pairs as keys
 pub still_made : (offers others : Offers) (pair : Pair) → made_of others ≡ made_of offers → contains_key others pair ≡ contains_key offers pair
 still_made offers others pair same =
     sym (there_of (get others pair)) ∙ ap is_some (sym (get_made others pair)) ∙ ap (λ (m : Made). contains_key m pair) same ∙ ap is_some (get_made offers pair) ∙ there_of (get offers pair)
@@ -136,7 +136,7 @@ flat_mapped : {X Y Z : Type 0} (f : X → Y) (g : Y → List Z) (xs : List X) �
 flat_mapped f g [] = refl
 flat_mapped f g (x ∷ xs) = ap (λ zs. g (f x) ++ zs) (flat_mapped f g xs)
 
--- where the references of offers point
+-- the targets of the references of offers
 pub targets_shown : (objects : Objects) (made : Made) → targets_made (made_shown objects made) ≡ targets_kept made
 targets_shown objects made =
     ap (λ es. flat_map (λ (offer : Offer). values offer.repository.references) (map (λ e. e.1) es)) (entries_map_values (offered objects) made)
@@ -147,28 +147,28 @@ kept_mapped : (objects : Objects) (es : List (Pair × Repository)) → map offer
 kept_mapped objects [] = refl
 kept_mapped objects (e ∷ es) = ap (λ os. offer_told e ∷ os) (kept_mapped objects es)
 
--- what a state has of offers that are shown
+-- a state's list of offers that are shown
 pub told_shown : (objects : Objects) (made : Made) → map offer_kept (entries (made_shown objects made)) ≡ map offer_told (entries made)
 told_shown objects made = ap (map offer_kept) (entries_map_values (offered objects) made) ∙ kept_mapped objects (entries made)
 
--- and of what was gathered of a state's offers: these offers
+-- and of the offers that were gathered from a state: these offers
 pub told_again : (offers : List text.Offer) → map offer_told (map entry_of offers) ≡ offers
 told_again [] = refl
 told_again (offer ∷ offers) = ap (λ os. offer ∷ os) (told_again offers)
 
 -- ---- rows about offers
--- a row that is told as it stands
+-- a reply and a view that are those of the row
 pub given_as : (row : Reply × View) (old : View) (reply : Reply) (new : View) → row ≡ (reply, new) → Gives row old reply new
 given_as row old reply new is = Given (ap (λ r. r.0) (sym is)) (ap (λ r. r.1) (sym is))
 
--- what becomes of an offer where none stands of it, and where there is room for it
+-- the result of adding an offer if there is none of it yet and there is room
 abbrev offer_put_in : Account → Private → Pair → Repository → Reply × View
 offer_put_in account own pair repository = (Done [], record (seen_by account own) { made = insert (made_shown own.visible account.made) pair (offered own.visible repository) })
 
 abbrev offer_beside : Account → Private → Pair → Repository → Reply × View
 offer_beside account own pair repository = cond (nat_le MAX_OFFERS (len (made_shown own.visible account.made))) (Refused TooMany, seen_by account own) (offer_put_in account own pair repository)
 
--- an offer that stands is not made again
+-- an existing offer is not made again
 pub offer_stands : (account : Account) (own : Private) (pair : Pair) (repository : Repository) → contains_key account.made pair ≡ true
     → offer_added (seen_by account own) pair repository ≡ (Refused (OfferExists pair.0 pair.1), seen_by account own)
 offer_stands account own pair repository there =
@@ -188,11 +188,11 @@ offer_made account own pair repository none room =
     ∙ ap (λ b. cond {A = Reply × View} b (Refused TooMany, seen_by account own) (offer_put_in account own pair repository)) (ap (nat_le MAX_OFFERS) (len_shown own.visible account.made) ∙ lt-leb MAX_OFFERS (len account.made) room)
     ∙ ap (λ (offers : Offers). (Done [], record (seen_by account own) { made = offers })) (sym (shown_insert own.visible account.made pair repository))
 
--- a word in a receiver's place that names another tenant
+-- a receiver's word that names another tenant
 pub receiver_is : (context : Context) (view : View) (word : List ℕ) (row : Reply × View) → (is_plain_name MAX_TENANT_NAME word && not (same_name word context.own)) ≡ true → named_receiver context view word row ≡ row
 receiver_is context view word row is = ap (λ b. cond b row (Refused (BadName word), view)) is
 
--- an offer that does not stand can't go
+-- an offer that does not exist cannot be withdrawn
 pub no_such_offer : (account : Account) (own : Private) (pair : Pair) → contains_key account.made pair ≡ false → withdrawn (seen_by account own) pair ≡ (Refused (NoOffer pair.0 pair.1), seen_by account own)
 no_such_offer account own pair none =
     ap (λ b. cond {A = Reply × View} b (Done [], record (seen_by account own) { made = remove (made_shown own.visible account.made) pair }) (Refused (NoOffer pair.0 pair.1), seen_by account own)) (known_shown own.visible account.made pair ∙ none)
@@ -202,14 +202,14 @@ offer_gone account own pair there =
     ap (λ b. cond {A = Reply × View} b (Done [], record (seen_by account own) { made = remove (made_shown own.visible account.made) pair }) (Refused (NoOffer pair.0 pair.1), seen_by account own)) (known_shown own.visible account.made pair ∙ there)
     ∙ ap (λ (offers : Offers). (Done [], record (seen_by account own) { made = offers })) (sym (shown_remove own.visible account.made pair))
 
--- offers as they are listed
+-- the list of offers
 pub offers_told : (context : Context) (account : Account) (own : Private) (text : List ℕ) → text ≡ offer_rows (codes "from ") context.offered ++ flat_map (offer_row (codes "to ")) (keys account.made)
     → Gives (offers_answer context (seen_by account own)) (seen_by account own) (Done text) (seen_by account own)
 unfolding offers_answer
 offers_told context account own text is =
     Given (ap Done (is ∙ ap (λ pairs. offer_rows (codes "from ") context.offered ++ flat_map (offer_row (codes "to ")) pairs) (sym (keys_shown own.visible account.made)))) refl
 
--- ---- views by what is plain of them
+-- ---- views by their plain parts
 -- each offer holds what its references reach among what is seen
 abbrev pub IsShown : View → Type 0
 IsShown view = made_shown view.objects (made_of view.made) ≡ view.made
@@ -232,18 +232,18 @@ entries_kept : (es : List (Pair × Offer)) → mapped repository_of es ≡ map e
 entries_kept [] = refl
 entries_kept (e ∷ es) = ap (λ rows. (e.0, e.1.repository) ∷ rows) (entries_kept es)
 
--- offers that are told alike are of the same repositories
+-- offers with the same list in a state have the same repositories
 pub same_told : (offers others : Offers) → map offer_kept (entries offers) ≡ map offer_kept (entries others) → made_of offers ≡ made_of others
 same_told offers others told =
     same_entries_map (made_of offers) (made_of others)
     (entries_map_values repository_of offers ∙ entries_kept (entries offers) ∙ ap (map entry_of) told ∙ sym (entries_kept (entries others)) ∙ sym (entries_map_values repository_of others))
 
--- such views are equal by what is plain of them
+-- such views are equal if their plain parts are
 pub same_plain : (a b : View) → IsShown a → IsShown b → plain a ≡ plain b → a ≡ b
 same_plain a b of_a of_b same =
     let made : a.made ≡ b.made = sym of_a ∙ (λ i. made_shown (same i).0.objects (same i).1) ∙ of_b in
     λ i. record (same i).0 { made = made i }
 
--- a view is plainly another one, where the rest of it is
+-- a view has the plain part of another one if the rest agrees
 pub plain_as : (rest now : View) → now.upload ≡ rest.upload → made_of now.made ≡ made_of rest.made → plain now ≡ plain (record now { made = rest.made; upload = rest.upload })
 plain_as rest now upload made = λ i. (record now { made = empty; upload = upload i }, made i)

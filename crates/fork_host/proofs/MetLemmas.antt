@@ -60,7 +60,7 @@ row = offer_row (codes "from ")
 abbrev rows_given : List ℕ → List (Pair × Offer) → List ℕ
 rows_given giver offers = flat_map row (map (λ (e : Pair × Offer). e.0) (map (λ (offer : Pair × Offer). ((giver, offer.0.1), offer.1)) offers))
 
--- those whose receiver is this one have the rows that the repositories have
+-- the offers to this receiver give the rows that the repositories give
 rows_kept : (giver receiver : List ℕ) (show : Repository → Offer) (es : List (Pair × Repository))
     → rows_given giver (filter (λ (e : Pair × Offer). same_name e.0.0 receiver) (mapped show es)) ≡ flat_map (λ (key : Pair). cond (same_name key.0 receiver) (row (giver, key.1)) []) (map (λ e. e.0) es)
 rows_kept giver receiver show [] = refl
@@ -81,7 +81,7 @@ rows_of_one vault receiver e =
     ∙ ap (filter (λ (o : Pair × Offer). same_name o.0.0 receiver)) (entries_map_values (offered seen) e.1.made))
     ∙ rows_kept e.0 receiver (offered seen) (entries e.1.made)
 
--- and of what all give
+-- and of what all accounts give
 rows_of_all : (vault : VaultState) (receiver : List ℕ) (es : Rows)
     → flat_map row (map (λ (o : Pair × Offer). o.0) (flat_map (given_by receiver) (map (entry_shown vault) es))) ≡ flat_map (λ (e : List ℕ × Account). rows_from e.0 receiver e.1.made) es
 rows_of_all vault receiver [] = refl
@@ -99,7 +99,7 @@ rows_met state receiver =
     ∙ rows_of_all state.vault receiver (entries state.accounts))
 
 -- ---- one offer
--- what an account offers to a receiver under a word, where these objects are seen
+-- what an account offers to a receiver under a word, if these objects are seen
 abbrev offered_by : VaultState → List ℕ → List ℕ → List ℕ → Option Account → Option Offer
 offered_by vault giver receiver word = option_and_then (λ (account : Account). option_map (offered (visible_in vault giver)) (get account.made (receiver, word)))
 
@@ -111,7 +111,7 @@ offer_at state receiver giver word =
     by None = refl
     by (Some account) = get_shown (visible_in state.vault giver) account.made (receiver, word)
 
--- nobody of this name gives anything
+-- if no tenant has the giver's name, nothing is offered
 pub no_giver : (state : HostState) (receiver giver word : List ℕ) → get state.accounts giver ≡ None → get (offered_to (world_of state) receiver) (giver, word) ≡ None
 no_giver state receiver giver word none = offer_at state receiver giver word ∙ ap (offered_by state.vault giver receiver word) none
 
@@ -124,7 +124,7 @@ absent : {A : Type 0} (o : Option A) → ((x : A) → o ≡ Some x → ⊥) → 
 absent None not_some = refl
 absent (Some x) not_some = absurd (not_some x refl)
 
--- the names of an offer in an orderly world are right, so nothing is offered under other words
+-- the names of offers in an orderly world are valid, so nothing is offered under other words
 pub no_tenant_name : (state : HostState) (receiver giver word : List ℕ) → IsOrderlyWorld (world_of state) → ¬ IsTenantName giver → get (offered_to (world_of state) receiver) (giver, word) ≡ None
 no_tenant_name state receiver giver word orderly wrong = absent (get (offered_to (world_of state) receiver) (giver, word)) (λ offer is.
     wrong (orderly.named giver (ap is_some (given_by_one (world_of state) receiver (giver, word) offer is).there)))
@@ -134,7 +134,7 @@ no_repository_name state receiver giver word orderly wrong = absent (get (offere
     let given = given_by_one (world_of state) receiver (giver, word) offer is in
     wrong (((orderly.views giver given.view given.there).offers (receiver, word) offer given.made).named))
 
--- an offer that is there is met, as it is kept
+-- an existing offer is met as it is kept
 pub offer_met : (state : HostState) (receiver giver word who : List ℕ) (account : Account) (repository : Repository) → IsOrderlyWorld (world_of state) → who ≡ giver → get state.accounts giver ≡ Some account → get account.made (receiver, word) ≡ Some repository
     → MeetsOffer state.vault (met_by (world_of state) receiver) giver word who repository
 offer_met state receiver giver word who account repository orderly same here made =

@@ -21,7 +21,7 @@ same_names xs ys first second same = btree_set_from_contains name_total (record 
 pub same_keys : {X Y : Type 0} (m : FinMap name_cmp X) (n : FinMap name_cmp Y) → ((name : List ℕ) → contains_key m name ≡ contains_key n name) → keys m ≡ keys n
 same_keys m n same = same_names (keys m) (keys n) (keys_ascend m) (keys_ascend n) (λ name. sym (contains_key-keys m name) ∙ same name ∙ contains_key-keys n name)
 
--- where none of the names is bad, they are those of the objects on the store
+-- if no name is bad, the names are those of the objects on the store
 pub keys_seen : (files : Files) (names : List (List ℕ)) (objects : Objects) → Ascend names → AreOnStore files names objects → first_bad names objects ≡ None → keys objects ≡ names
 keys_seen files names objects ascend stored none =
     same_names (keys objects) names (keys_ascend objects) ascend (λ name. sym (contains_key-keys objects name) ∙ by name (is_one_of names name) refl (get objects name) refl)

@@ -1,4 +1,4 @@
--- Over an honest store, what opens an upload again is what was received.
+-- Over an honest store, the bytes that open an upload again stand for what was received.
 use Rattle.std.proofs.Common.{◌≡◌, inl, inr, Result, Ok, Err, ℕ, ◌+◌, ◌<◌, Bool, true, IsTrue, List, [], ◌∷◌, ◌++◌, refl, sym, ap, ap₂, append_assoc, subst, ◌∙◌, length, get_or, take, map}
 use Rattle.std.specs.Prelude.{IfErr}
 use Rattle.std.specs.FinMap.{contains_key}
@@ -46,7 +46,7 @@ reads_then a b c reply first then = record {
   same = same_then a b c first.same then.same;
 }
 
--- what was read is told, or memory was wanting behind it
+-- what was read is reported, or memory ran out after the reading
 pub reads_quiet : {S : Type 0} (a b : Own S) (reply : Reply) → OnlyReads a b (Done []) → IsQuiet reply → OnlyReads a b reply
 reads_quiet a b reply reads quiet = record {
   kept = reads.kept;
@@ -59,7 +59,7 @@ pub quiet_told : {A : Type 0} (r : Result A HostFault) → IfErr r (λ fault. fa
 quiet_told (Ok read) is = inl refl
 quiet_told (Err fault) is = inr (ap (λ f. Failed f) is)
 
--- what is staged stays: over an honest store itself, and over any the names
+-- what is staged stays: over an honest store the objects, over any the names
 pub staged_still : {S : Type 0} (old new : Own S) (reply : Reply) → OnlyReads old new reply → IsTrue old.vault.now.honest → staged_by new ≡ staged_by old
 staged_still old new reply reads honest =
     ap (λ r. staged_in new.vault.now r.now) reads.same.tenant ∙ ap (λ tenants. (private_of tenants old.tenant.now).staged) (reads.kept honest)
@@ -71,7 +71,7 @@ still_there old new name reads there =
     ap (λ r. contains_key (staged_in new.vault.now r.now) name) reads.same.tenant ∙ same_there _ _ name same ∙ there
 
 -- ---- record after record
--- one of those that are told of is staged
+-- each object of the list is staged
 pub there_at : (staged : Objects) (sent : List Sent) (at : ℕ) (one : Sent) → AllByRecursion (λ (s : Sent). contains_key staged s.name ≡ true) sent → at < length sent → one ≡ get_or sent at one → contains_key staged one.name ≡ true
 there_at staged sent at one there inside is =
     ap (λ (s : Sent). contains_key staged s.name) is ∙ each_of (λ (s : Sent). contains_key staged s.name ≡ true) sent (get_or sent at one) there (Contains-get_or sent at one inside)
@@ -85,13 +85,13 @@ records_more objects staged sent at one first old new inside is same before more
     ∙ flat_map_more record_of first (map (object_sent objects) (take at sent)) (object_sent objects one)
     ∙ ap (λ (os : List Object). first ++ records_of os) (sym (map-append (object_sent objects) (take at sent) (one ∷ [])) ∙ ap (map (object_sent objects)) (sym (taken_more sent at one inside is)))
 
--- a header, the records, and what stands behind them
+-- a header, the records, and what comes after them
 pub text_is : (front header records other end old new : List ℕ) → front ≡ header → records ≡ other → old ≡ front ++ records → new ≡ old ++ end → new ≡ header ++ (other ++ end)
 text_is front header records other end old new starts same added ended =
     ended ∙ ap (λ (l : List ℕ). l ++ end) (added ∙ ap₂ (λ (l m : List ℕ). l ++ m) starts same) ∙ append_assoc header other end
 
 -- ---- the whole
--- what is told of a stream's objects is what is known of the stream
+-- the list of a stream's objects is what is known of the stream
 told_is : (s : Stream) → map sent_of (sent_in s) ≡ told_in (flow_of s)
 told_is (Flows commands objects headed rest) = refl
 told_is (Breaks fault) = refl
@@ -99,7 +99,7 @@ told_is (Breaks fault) = refl
 pub told_of : (bytes : List ℕ) (reading : Reading) → reading_of bytes ≡ reading → map sent_of (sent_in (stream_of bytes)) ≡ told_in reading.flow
 told_of bytes reading read = told_is (stream_of bytes) ∙ ap (λ (r : Reading). told_in r.flow) read
 
--- the names that are told of are staged
+-- the names in the list are staged
 names_there : (staged : Objects) (objects : List Object) → AllByRecursion (λ object. contains_key staged (object_name object) ≡ true) objects → AllByRecursion (λ (one : Sent). contains_key staged one.name ≡ true) (map sent_of objects)
 names_there staged [] there = tt
 names_there staged (object ∷ objects) there = (there.0, names_there staged objects there.1)
@@ -108,7 +108,7 @@ pub told_there : (honest : Bool) (bytes : List ℕ) (reading : Reading) (staged 
 told_there honest bytes reading staged sent came is =
     subst (AllByRecursion (λ (one : Sent). contains_key staged one.name ≡ true)) (told_of bytes reading came.read ∙ sym is) (names_there staged (sent_in (stream_of bytes)) came.there)
 
--- the records of what is staged are those of what came
+-- the records of what is staged are those of what was received
 pub told_records : (bytes : List ℕ) (reading : Reading) (staged : Objects) (sent : List Sent) → reading_of bytes ≡ reading → AreSent staged (sent_in (stream_of bytes)) → sent ≡ told_in reading.flow
     → records_of (map (object_sent staged) sent) ≡ records_of (sent_in (stream_of bytes))
 told_records bytes reading staged sent read are is =

@@ -38,7 +38,7 @@ changes_none Way vault own way = record {
   honest = refl;
 }
 
--- they change, and then the vault is read alone
+-- they change, and then the vault is only read
 pub changes_still : {Way : Private → Private → Type 0} (before old new : VaultState) (own : List ℕ) → Becomes shape_of old.honest old.tenants new.tenants → new.honest ≡ old.honest → ChangesTenant own Way before old → ChangesTenant own Way before new
 changes_still before old new own stays honest changes = record {
   tenants = changes.tenants;
@@ -51,7 +51,7 @@ changes_still before old new own stays honest changes = record {
   honest = honest ∙ changes.honest;
 }
 
--- one call makes this of them; it makes nothing of them, where the vault is read alone
+-- one call makes this change; it makes none if the vault is only read
 pub made : (old new : VaultState) (own : List ℕ) (change : Private → Private) → contains_key old.tenants own ≡ true → Becomes shape_of old.honest (at_tenant old.tenants own change) new.tenants → new.honest ≡ old.honest → ChangesTenant own (MadeBy change) old new
 made old new own change there becomes honest = record {
   tenants = at_tenant old.tenants own change;
@@ -64,14 +64,14 @@ made old new own change there becomes honest = record {
 pub made_none : (old new : VaultState) (own : List ℕ) → Becomes shape_of old.honest old.tenants new.tenants → new.honest ≡ old.honest → ChangesTenant own (MadeBy (λ p. p)) old new
 made_none old new own stays honest = changes_still old old new own stays honest (changes_none (MadeBy (λ p. p)) old own refl)
 
--- the same of a call that tells it over any store
+-- for a call whose clause holds over any store
 pub became : (honest : Bool) (this new : Tenants) → new ≡ this → Becomes shape_of honest this new
 became honest this new is = record { shape = ap shape_of is; exact = λ _. is }
 
 pub made_just : (old new : VaultState) (own : List ℕ) (change : Private → Private) → contains_key old.tenants own ≡ true → new.tenants ≡ at_tenant old.tenants own change → new.honest ≡ old.honest → ChangesTenant own (MadeBy change) old new
 made_just old new own change there is honest = made old new own change there (became old.honest (at_tenant old.tenants own change) new.tenants is) honest
 
--- the same of a call's result
+-- for the result of a call
 pub made_ok : {A E : Type 0} (r : Result A E) (old new : VaultState) (own : List ℕ) (change : Private → Private) → contains_key old.tenants own ≡ true → OnOk r (shape_of new.tenants ≡ shape_of (at_tenant old.tenants own change))
     → (IsTrue old.honest → OnOk r (new.tenants ≡ at_tenant old.tenants own change)) → new.honest ≡ old.honest → OnOk r (ChangesTenant own (MadeBy change) old new)
 made_ok (Ok a) old new own change there shape same honest = made old new own change there (record { shape = shape; exact = same }) honest
@@ -82,7 +82,7 @@ pub made_err : {A E : Type 0} (r : Result A E) (old new : VaultState) (own : Lis
 made_err (Ok a) old new own shape same honest = tt
 made_err (Err e) old new own shape same honest = made_none old new own (record { shape = shape; exact = same }) honest
 
--- what a call makes of the tenant's private maps is all that it makes of the tenants
+-- if a call leaves the other tenants, its change of this one is all that it does to the tenants
 made_at : (old new : Tenants) (own : List ℕ) (change : Private → Private) → contains_key old own ≡ true → LeavesOthers own old new → private_of new own ≡ change (private_of old own) → new ≡ at_tenant old own change
 made_at old new own change there leaves is =
     same_tenants new (at_tenant old own change) (λ q. leaves.there q ∙ sym (there_still old own q change))
@@ -92,7 +92,7 @@ made_at old new own change there leaves is =
     itself : (q : List ℕ) → q ≡ own → private_of new q ≡ private_of (at_tenant old own change) q
     itself q same = ap (private_of new) same ∙ is ∙ sym (private_at old own change there) ∙ ap (private_of (at_tenant old own change)) (sym same)
 
--- they change, and then one call makes this of them
+-- they change, and then one call makes this change
 pub changes_then : (Way Next : Private → Private → Type 0) (before old new : VaultState) (own : List ℕ) (change : Private → Private) → contains_key old.tenants own ≡ true → Respects change
     → ((p : Private) → Way (private_of before.tenants own) p → Next (private_of before.tenants own) (change p)) → ChangesTenant own Way before old → ChangesTenant own (MadeBy change) old new → ChangesTenant own Next before new
 changes_then Way Next before old new own change there respects next first then =
@@ -109,11 +109,11 @@ changes_then Way Next before old new own change there respects next first then =
       honest = then.honest ∙ first.honest;
     }
 
--- the tenant is there still
+-- the tenant still exists
 pub here_changed : {Way : Private → Private → Type 0} (before now : VaultState) (own : List ℕ) → contains_key before.tenants own ≡ true → ChangesTenant own Way before now → contains_key now.tenants own ≡ true
 here_changed before now own there changes = same_tenants_there changes.tenants now.tenants own changes.shown.shape ∙ changes.leaves.there own ∙ there
 
--- objects are staged: none at first, and one more
+-- objects are staged: at first none, then one more
 pub stages_none : (vault : VaultState) (own : List ℕ) → ChangesTenant own (Stages (both_in vault own)) vault vault
 stages_none vault own = changes_none (Stages (both_in vault own)) vault own (record { sees = refl; staged = refl })
 
@@ -133,7 +133,7 @@ pub published : (before old new : VaultState) (own : List ℕ) (both : Objects) 
     → ChangesTenant own (SeesOnly both) before new
 published before old new own both there = changes_then (Stages both) (SeesOnly both) before old new own with_published there respects_published (λ p stages. record { sees = stages.staged; stages = refl })
 
--- some of what is seen stays, of a vault that was read before
+-- some of what is seen is kept, in a vault that was read before
 pub kept : (old mid new : VaultState) (own : List ℕ) (names : List ℕ → Bool) → contains_key old.tenants own ≡ true → shape_of mid.tenants ≡ shape_of old.tenants → (IsTrue old.honest → mid.tenants ≡ old.tenants)
     → mid.honest ≡ old.honest → new.tenants ≡ at_tenant mid.tenants own (with_kept names) → new.honest ≡ mid.honest → ChangesTenant own (Has (retain_keys (visible_in old own) names) (staged_in old own)) old new
 kept old mid new own names there shape same honest is still =
@@ -153,7 +153,7 @@ emptied first mid new own objects names there none is still changes =
     changes_then (SeesOnly objects) (SeesOnly empty) first mid new own (with_kept names) here (respects_kept names) (λ p has. record { sees = none_kept p.visible names none; stages = has.stages }) changes
     (made_just mid new own (with_kept names) here is still)
 
--- a tenant's part alone was used
+-- only a tenant's part was used
 pub own_of : {Way : Private → Private → Type 0} (old new : VaultState) (own : List ℕ) → ChangesTenant own Way old new → IsOwn own old new
 own_of old new own changes = record {
   there = λ t. same_tenants_there changes.tenants new.tenants t changes.shown.shape ∙ changes.leaves.there t;
@@ -166,7 +166,7 @@ pub own_either : {A E : Type 0} (Way Other : Private → Private → Type 0) (r 
 own_either Way Other (Ok a) old new own done failed = own_of old new own done
 own_either Way Other (Err e) old new own done failed = own_of old new own failed
 
--- what it sees and has staged is shown: over any store its measures, and over an honest one itself
+-- what it sees and has staged is shown: over any store its measures, over an honest one the objects
 pub own_shown : {Way : Private → Private → Type 0} (old new : VaultState) (own : List ℕ) (changes : ChangesTenant own Way old new) → Becomes private_measures old.honest (private_of changes.tenants own) (private_of new.tenants own)
 own_shown old new own changes = record {
   shape = same_measures changes.tenants new.tenants own changes.shown.shape;
@@ -184,7 +184,7 @@ seen_measures old new own objects changes = ap (λ (p : Measures × Measures). p
 pub seen_itself : {staged : Objects} (old new : VaultState) (own : List ℕ) (objects : Objects) → ChangesTenant own (Has objects staged) old new → IsTrue old.honest → visible_in new own ≡ objects
 seen_itself old new own objects changes honest = ap (λ (p : Private). p.visible) ((own_shown old new own changes).exact honest) ∙ changes.way.sees
 
--- what it sees stays where no change touches it
+-- what it sees stays if the change does not touch it
 pub seen_kept : (old new : VaultState) (own : List ℕ) (change : Private → Private) → ((p : Private) → (change p).visible ≡ p.visible) → ChangesTenant own (MadeBy change) old new → KeepsSeen own old new
 seen_kept old new own change still changes =
     let shown = own_made old new own change changes in
@@ -193,7 +193,7 @@ seen_kept old new own change still changes =
       exact = λ honest. ap (λ (p : Private). p.visible) (shown.exact honest) ∙ still (private_of old.tenants own);
     }
 
--- what it has staged stays where the way is to have it still
+-- what it has staged stays if the way keeps it
 pub staged_kept : {Way : Private → Private → Type 0} (old new : VaultState) (own : List ℕ) → ChangesTenant own Way old new → ((p : Private) → Way (private_of old.tenants own) p → p.staged ≡ staged_in old own) → KeepsStaged own old new
 staged_kept old new own changes still =
     let shown = own_shown old new own changes in
@@ -203,14 +203,14 @@ staged_kept old new own changes still =
       exact = λ honest. ap (λ (p : Private). p.staged) (shown.exact honest) ∙ same;
     }
 
--- nothing is staged behind it, and so where nothing was, it stayed
+-- nothing is staged afterwards, so if nothing was staged before, that stays
 pub none_staged : (old new : VaultState) (own : List ℕ) (objects : Objects) → ChangesTenant own (SeesOnly objects) old new → staged_in new own ≡ empty
 none_staged old new own objects changes = none_of (staged_in new own) (ap (λ (p : Measures × Measures). p.1) (own_shown old new own changes).shape ∙ ap measures_of changes.way.stages)
 
 pub still_none : (old new : VaultState) (own : List ℕ) → staged_in old own ≡ empty → staged_in new own ≡ empty → KeepsStaged own old new
 still_none old new own before after = record { shape = ap measures_of (after ∙ sym before); exact = λ _. after ∙ sym before }
 
--- where it was read alone
+-- the vault was only read
 pub own_read : (old new : VaultState) (own : List ℕ) → shape_of new.tenants ≡ shape_of old.tenants → (IsTrue old.honest → new.tenants ≡ old.tenants) → new.honest ≡ old.honest → IsOwn own old new
 own_read old new own shape same honest = own_of old new own (made_none old new own (record { shape = shape; exact = same }) honest)
 
@@ -235,7 +235,7 @@ seen_read old new own shape same = record {
 pub seen_same : (vault : VaultState) (own : List ℕ) → KeepsSeen own vault vault
 seen_same vault own = seen_read vault vault own refl (λ _. refl)
 
--- what a change makes of the tenant's private maps
+-- the effect of a change on the tenant's private maps
 pub changed_at : (old new : Tenants) (own : List ℕ) (change : Private → Private) → contains_key old own ≡ true → new ≡ at_tenant old own change → private_of new own ≡ change (private_of old own)
 changed_at old new own change there is = ap (λ m. private_of m own) is ∙ private_at old own change there
 
@@ -248,6 +248,6 @@ own_then own a b c first then = record {
   honest = then.honest ∙ first.honest;
 }
 
--- what is staged stays, where it stays in one call and in the next
+-- what is staged stays if it stays in each of two calls
 pub staged_then : (own : List ℕ) (a b c : VaultState) → b.honest ≡ a.honest → KeepsStaged own a b → KeepsStaged own b c → KeepsStaged own a c
 staged_then own a b c honest first then = record { shape = then.shape ∙ first.shape; exact = λ is. then.exact (honest ∙ is) ∙ first.exact is }

@@ -1,4 +1,4 @@
--- Offers in their order, by pairs of names and by words.
+-- Offers in order, by pairs of names and by words.
 use Rattle.std.proofs.Common.{arith, Bool, true, false, cond, ◌≡◌, ℕ, ◌+◌, ◌<◌, List, [], ◌∷◌, ◌++◌, Some, refl, sym, ap, subst, ◌∙◌, get_or, length, take, drop, map}
 use Rattle.std.specs.declared.cmp.Ordering.{Ordering}
 use Rattle.std.specs.declared.cmp.Ordering.TheVariants.{Less, Equal, Greater}
@@ -27,12 +27,12 @@ use Rattle.fork_host.specs.Made.{IsToAnother, Made, entry_of, offer_told, pair_o
 use Rattle.fork_host.proofs.GatherLemmas.{parts_at, taken_more}
 use Rattle.fork_host.proofs.KeepingLemmas.{before_next_by}
 
--- an entry whose key is behind the others is put behind them
+-- an entry whose key comes after all others is inserted at the end
 put_last : {K X : Type 0} {R : K → K → Ordering} → IsTotalOrder R → (es : List (K × X)) (key : K) (value : X) → AllByRecursion (λ other. R other key ≡ Less) (map (λ e. e.0) es) → put R key value es ≡ es ++ (key, value) ∷ []
 put_last total [] key value ahead = refl
 put_last {R = R} total (e ∷ es) key value ahead = (let above : R key e.0 ≡ _ = total.antisymm key e.0 ∙ ap ordering_reverse ahead.0 in rw above (ap (λ fs. e ∷ fs) (put_last total es key value ahead.1)))
 
--- of keys in order those at the front stand before the next
+-- of keys in order, those at the front come before the next
 ahead : {K : Type 0} (R : K → K → Ordering) (xs : List K) (x : K) (ys : List K) → IsStrictlySortedBy R (xs ++ x ∷ ys) → AllByRecursion (λ other. R other x ≡ Less) xs
 unfolding IsStrictlySortedBy
 ahead R [] x ys sorted = tt
@@ -46,7 +46,7 @@ keys_gathered : (offers : List Offer) → map (λ e. e.0) (map entry_of offers) 
 keys_gathered [] = refl
 keys_gathered (offer ∷ offers) = ap (λ ks. pair_of offer ∷ ks) (keys_gathered offers)
 
--- offers of a list, as the next one comes to them
+-- the offers of a list when the next one is added
 pub offers_more : (list : List Offer) (old new : Made) (i : ℕ) (item : Offer) (receiver name : List ℕ) (repository : Repository) → IsStrictlySortedBy pair_cmp (map pair_of list) → i < length list → item ≡ get_or list i item
     → receiver ≡ item.receiver → name ≡ item.name → repository ≡ item.repository → new ≡ insert old (receiver, name) repository → entries old ≡ map entry_of (take i list) → entries new ≡ map entry_of (take (i + 1) list)
 offers_more list old new i item receiver name repository ascend inside is to called of set so_far =
@@ -70,7 +70,7 @@ pairs_ascend giver (offer ∷ offers) right ascend = (above offers right.1 ascen
     above [] named less = tt
     above (other ∷ others) named less = (sym (words_cmp _ _ offer.receiver other.receiver offer.name other.name right.0.receiver_named named.0.receiver_named) ∙ less.0, above others named.1 less.1)
 
--- and offers that are kept are told in the order of their words
+-- and offers that are kept are listed in the order of their words
 words_ascend : (es : List (Pair × Repository)) → AllByRecursion (λ e. IsTenantName e.0.0) es → IsStrictlySortedBy pair_cmp (map (λ e. e.0) es) → Ascend (map words_of_offer (map offer_told es))
 unfolding IsStrictlySortedBy
 words_ascend [] named ascend = tt
@@ -94,7 +94,7 @@ at_place : {A : Type 0} (P : A → Type 0) (xs : List A) (x : A) (ys : List A) �
 at_place P [] x ys all = all.0
 at_place P (z ∷ xs) x ys all = at_place P xs x ys all.1
 
--- of offers that are kept, the next one is to another, and is told behind those before it
+-- the next offer that is kept is to another tenant, and is listed after those before it
 module _ (giver : List ℕ) (made : Made) (others : (pair : Pair) (repository : Repository) → get made pair ≡ Some repository → IsToAnother giver pair) (front : List (Pair × Repository)) (e : Pair × Repository) (back : List (Pair × Repository))
     (are : front ++ e ∷ back ≡ entries made) where
   pub next_other : IsToAnother giver e.0
@@ -107,7 +107,7 @@ module _ (giver : List ℕ) (made : Made) (others : (pair : Pair) (repository : 
       before_next_by words_of_offer (map offer_told front) (offer_told e) (map offer_told back)
       (subst (λ offers. Ascend (map words_of_offer offers)) (ap (map offer_told) (sym are) ∙ map-append offer_told front (e ∷ back)) (told_ascend giver made others))
 
--- one more of them is told
+-- one more of them is listed
 pub told_more : (state : TenantState) (front : List (Pair × Repository)) (e : Pair × Repository) → with_offer (with_offers state (map offer_told front)) (offer_told e) ≡ with_offers state (map offer_told (front ++ e ∷ []))
 told_more state front e = λ i. record state { offers = (append_assoc state.offers (map offer_told front) (offer_told e ∷ []) ∙ ap (λ offers. state.offers ++ offers) (sym (map_behind offer_told front e))) i }
 

@@ -53,7 +53,7 @@ use Rattle.fork_host.proofs.StagedLemmas.{came_none, came_upload, staged_kept_st
 abbrev pub with_upload : Account → Option Reading → Account
 with_upload account upload = record account { upload = upload }
 
--- an upload, or one of which nothing came yet, went on by a piece, and stands so
+-- an upload, open or empty, was continued by a piece, with this result
 pub record IsPart (own : List ℕ) (waits now : Option Reading) (old new : Reading) (body : List ℕ) (before : VaultState) (reply : Reply) (after : VaultState) : Type 0 where
   pub bytes : List ℕ
   pub came : Came before.honest bytes old (staged_in before own)
@@ -62,13 +62,13 @@ pub record IsPart (own : List ℕ) (waits now : Option Reading) (old new : Readi
   pub done : is_done reply ≡ true → now ≡ Some new
   pub still : is_done reply ≡ false → now ≡ waits
 
--- what was not fed is as it was
+-- if the piece was not taken, the upload is as it was
 unfed : (own : List ℕ) (old new : Reading) (body : List ℕ) (before after : VaultState) (reply : Reply) → is_done reply ≡ false → IsFed own old body before reply new after → new ≡ old
 unfed own old new body before after reply not_done (Fed told room more) = (let differs : ⊥ = cc (sym not_done ∙ ap is_done told) in absurd differs)
 unfed own old new body before after reply not_done (Full told room same kept) = same
 unfed own old new body before after reply not_done (Unfed fault told same kept) = same
 
--- one that is open
+-- an upload that is open
 pub part_more : (own : List ℕ) (waits : Option Reading) (old new : Reading) (body : List ℕ) (before after : VaultState) (reply : Reply) → waits ≡ Some old → IsStaged before.honest waits (staged_in before own) → IsFed own old body before reply new after
     → IsPart own waits (Some new) old new body before reply after
 part_more own waits old new body before after reply is staged fed =
@@ -82,7 +82,7 @@ part_more own waits old new body before after reply is staged fed =
       still = λ not_done. ap Some (unfed own old new body before after reply not_done fed) ∙ sym is;
     }
 
--- and one that begins
+-- an upload that begins
 part_begun : (own : List ℕ) (waits now : Option Reading) (old new : Reading) (body : List ℕ) (before after : VaultState) (reply : Reply) → waits ≡ None → old ≡ reading_of [] → IsStaged before.honest waits (staged_in before own)
     → IsFed own old body before reply new after → (is_done reply ≡ true → now ≡ Some new) → (is_done reply ≡ false → now ≡ waits) → IsPart own waits now old new body before reply after
 part_begun own waits now old new body before after reply is begins staged fed done still =
@@ -96,19 +96,19 @@ part_begun own waits now old new body before after reply is begins staged fed do
       still = still;
     }
 
--- where it is not done, none is open still
+-- if the piece is not taken, none is open afterwards either
 pub part_kept : (own : List ℕ) (waits : Option Reading) (old new : Reading) (body : List ℕ) (before after : VaultState) (reply : Reply) → waits ≡ None → old ≡ reading_of [] → IsStaged before.honest waits (staged_in before own)
     → IsFed own old body before reply new after → is_done reply ≡ false → IsPart own waits waits old new body before reply after
 part_kept own waits old new body before after reply is begins staged fed not_done =
     part_begun own waits waits old new body before after reply is begins staged fed (λ done. (let differs : ⊥ = cc (sym done ∙ not_done) in absurd differs)) (λ _. refl)
 
--- and where it is done, it is open
+-- and if it is taken, the upload is open
 pub part_opened : (own : List ℕ) (waits : Option Reading) (old new : Reading) (body : List ℕ) (before after : VaultState) (reply : Reply) → waits ≡ None → old ≡ reading_of [] → IsStaged before.honest waits (staged_in before own)
     → IsFed own old body before reply new after → is_done reply ≡ true → IsPart own waits (Some new) old new body before reply after
 part_opened own waits old new body before after reply is begins staged fed done =
     part_begun own waits (Some new) old new body before after reply is begins staged fed (λ _. refl) (λ not_done. (let differs : ⊥ = cc (sym not_done ∙ done) in absurd differs))
 
--- the views are the same, where what is staged, what is seen and whether an upload is open stay
+-- the views are the same if what is staged, what is seen and whether an upload is open stay
 same_shown : (account : Account) (own : List ℕ) (waits now : Option Reading) (before after : VaultState) → now ≡ waits → staged_in after own ≡ staged_in before own → visible_in after own ≡ visible_in before own
     → shown (with_upload account now) after own ≡ shown (with_upload account waits) before own
 same_shown account own waits now before after upload staged seen = λ i. seen_by (with_upload account (upload i)) (record { visible = seen i; staged = staged i })
@@ -163,14 +163,14 @@ orderly_opened view other few orderly = record {
   offers = orderly.offers;
 }
 
--- an open upload with its objects has as many bytes
+-- an open upload with its objects is within a limit if its reading is
 counted_among : (staged : Objects) (waits : Option Reading) (n : ℕ) → ((reading : Reading) → waits ≡ Some reading → reading.count ≤ n) → (upload : UploadValue) → option_map (upload_among staged) waits ≡ Some upload → upload.count ≤ n
 counted_among staged None n few upload is = absurd (cc)
 counted_among staged (Some reading) n few upload is =
     let same : reading.count ≡ upload.count = cc in
     subst (λ m. m ≤ n) same (few reading refl)
 
--- and one that was in order before
+-- and the reading is if the upload is
 counts_among : (staged : Objects) (waits : Option Reading) (n : ℕ) → ((upload : UploadValue) → option_map (upload_among staged) waits ≡ Some upload → upload.count ≤ n) → (reading : Reading) → waits ≡ Some reading → reading.count ≤ n
 counts_among staged None n few reading is = absurd (cc)
 counts_among staged (Some waits) n few reading is =
@@ -215,7 +215,7 @@ pub part_sent : (account : Account) (own : List ℕ) (waits now : Option Reading
 part_sent account own waits now old new body before after reply part honest =
     ap (λ (upload : UploadValue). sent_in upload.stream) (sym (piece_joins part.bytes body) ∙ ap (λ (upload : UploadValue). continued upload body) (sym (part.opened honest)))
 
--- what came is staged
+-- what was received is staged
 pub part_staged : (own : List ℕ) (waits now : Option Reading) (old new : Reading) (body : List ℕ) (before after : VaultState) (reply : Reply) → IsStaged before.honest waits (staged_in before own) → IsPart own waits now old new body before reply after
     → IsStaged before.honest now (staged_in after own)
 part_staged own waits now old new body before after reply staged part = by part.fed
@@ -228,8 +228,8 @@ part_staged own waits now old new body before after reply staged part = by part.
     by (Full told room same kept) = stays kept (part.still (ap is_done told))
     by (Unfed fault told same kept) = stays kept (part.still (ap is_done told))
 
--- ---- the upload is at its end
--- the error of the stream's end is that of the stream
+-- ---- the end of an upload
+-- a fault of the brief is a fault of the stream
 same_end : (held : Finished) (fault : StreamFault) → brief_of held ≡ Err fault → held ≡ Err fault
 same_end (Ok held) fault is = absurd (cc)
 same_end (Err other) fault is =
@@ -248,7 +248,7 @@ ended_told row old reply new told (Yielded is same) = Yielded is (ap (λ (p : Vi
 ended_told row old reply new told (Lacking wanting stays) = (let differs : ⊥ = cc (sym told ∙ ap is_host_fault wanting) in absurd differs)
 ended_told row old reply new told (Faulted fault is stays) = (let differs : ⊥ = cc (sym told ∙ ap is_host_fault is) in absurd differs)
 
--- ---- the upload goes
+-- ---- an upload is discarded
 is_some_among : (staged : Objects) (waits : Option Reading) → is_some (option_map (upload_among staged) waits) ≡ is_some waits
 is_some_among staged None = refl
 is_some_among staged (Some reading) = refl
@@ -270,7 +270,7 @@ drop_refused account own vault none =
     Given (sym (ap (λ (r : Reply × View). r.0) row)) (sym (ap (λ (r : Reply × View). r.1) row))
 
 -- ---- bounds
--- the bounds over an honest store speak of what was sent
+-- over an honest store the bounds are about what was sent
 pub bounded_among : (sent others : List Object) (a b : VaultState) (reply : Reply) → (IsTrue a.honest → sent ≡ others) → IsBounded sent a b reply → IsBounded others a b reply
 bounded_among sent others a b reply same bounded = record {
   honest = bounded.honest;
@@ -290,11 +290,11 @@ none_waits f (Some a) is = absurd (cc)
 pub staged_none : (honest : Bool) (upload : Option Reading) (staged : Objects) → upload ≡ None → IsStaged honest upload staged → staged ≡ empty
 staged_none honest upload staged none is = subst (λ u. IsStaged honest u staged) none is
 
--- of one that is open what came is staged
+-- if one is open, what was received is staged
 pub staged_some : (honest : Bool) (upload : Option Reading) (reading : Reading) (staged : Objects) → upload ≡ Some reading → IsStaged honest upload staged → (bytes : List ℕ) × Came honest bytes reading staged
 staged_some honest upload reading staged some is = subst (λ u. IsStaged honest u staged) some is
 
--- what is told of views is told of the same views
+-- what holds of views holds of equal views
 pub yields_as : (row : View → Reply × View) (old view now new : View) (reply : Reply) → old ≡ view → now ≡ new → Yields (row old) old reply now → Yields (row view) view reply new
 yields_as row old view now new reply is same yields = subst (λ v. Yields (row v) v reply new) is (subst (λ v. Yields (row old) old reply v) same yields)
 
@@ -306,12 +306,12 @@ pub some_told : {A B : Type 0} (f : A → B) (upload : Option A) (there : Bool) 
 some_told f None there is = is
 some_told f (Some a) there is = is
 
--- nor in a view, so none in the account
+-- if the view has none, the account has none
 pub none_among : (staged : Objects) (upload : Option Reading) → option_map (upload_among staged) upload ≡ None → upload ≡ None
 none_among staged None is = refl
 none_among staged (Some reading) is = absurd (cc)
 
--- a host fault is not done
+-- a host fault is not `ok`
 pub failed_not_done : (reply : Reply) → is_host_fault reply ≡ true → is_done reply ≡ false
 failed_not_done (Done text) is = absurd (cc)
 failed_not_done (Refused refusal) is = refl
@@ -322,7 +322,7 @@ pub safe_within : (Within Over : Reply → Type 0) (old : View) (reply : Reply) 
 safe_within Within Over old reply new over safe = record { orderly = safe.orderly; kept = safe.kept; faults = over safe.faults }
 
 -- ---- the catalogue
--- what a piece adds stands behind what came, whichever objects these are
+-- what a piece adds comes after what was received, whichever objects these are
 behind_front : (commands : List Command) (objects : List Object) (s : Stream) → (front : List Object) × (sent_in (behind commands objects s) ≡ front ++ sent_in s)
 behind_front commands objects (Flows others more headed rest) = (objects, refl)
 behind_front commands objects (Breaks fault) = ([], refl)
@@ -336,7 +336,7 @@ gained_alike : (objects : Objects) (flow : Flow) (piece : List ℕ) → gained (
 gained_alike objects (Going commands sent headed rest) piece = refl
 gained_alike objects (Broken fault) piece = refl
 
--- so the names of what it adds are among those of what the upload then has
+-- so the names that it adds are among those of the upload afterwards
 grown : (upload : UploadValue) (flow : Flow) (body : List ℕ) (a b : Places) → gained (flow_of upload.stream) body ≡ gained flow body → GrowsAmong (sent_names (gained flow body)) a b → GrowsAmong (sent_names (sent_in (continued upload body).stream)) a b
 unfolding continued
 grown upload flow body a b same grows =
@@ -346,14 +346,14 @@ grown upload flow body a b same grows =
     grows_more (sent_names (gained flow body)) (sent_names (sent_in (stream_with upload.stream body))) a b
     (λ name is. subst (λ all. Contains all name) (sym names) (Contains-append_right (sent_names parts.0) (sent_names (gained flow body)) name is)) grows
 
--- of one that is open
+-- for an upload that is open
 pub part_grows : (staged : Objects) (waits : Option Reading) (old : Reading) (body : List ℕ) (a b : Places) → waits ≡ Some old → GrowsAmong (sent_names (gained old.flow body)) a b
     → GrowsAmong (sent_names (sent_in (continued (open_upload (option_map (upload_among staged) waits)) body).stream)) a b
 part_grows staged waits old body a b is grows =
     subst (λ upload. GrowsAmong (sent_names (sent_in (continued (open_upload (option_map (upload_among staged) upload)) body).stream)) a b) (sym is)
     (grown (upload_among staged old) old.flow body a b (gained_alike staged old.flow body) grows)
 
--- and of one that begins
+-- and for one that begins
 pub begun_grows : (staged : Objects) (waits : Option Reading) (old : Reading) (body : List ℕ) (a b : Places) → waits ≡ None → old ≡ reading_of [] → GrowsAmong (sent_names (gained old.flow body)) a b
     → GrowsAmong (sent_names (sent_in (continued (open_upload (option_map (upload_among staged) waits)) body).stream)) a b
 begun_grows staged waits old body a b is begins grows =

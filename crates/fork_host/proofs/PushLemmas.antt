@@ -21,7 +21,7 @@ use Rattle.fork_model.specs.View.{View}
 use Rattle.fork_host.specs.Pushed.{Sends, TellsHeld}
 use Rattle.fork_host.specs.Rows.{Yields, Yielded, Lacking, Faulted}
 
--- what a stream gave is what it holds, and what was sent
+-- what was read from a stream is what the stream holds, and what was sent
 pub tells_held : (stream : Stream) (r : Result Body BodyError) → IfOk r (λ body. finished stream ≡ Ok (body.commands.items, body.objects.items)) → IfErr r (TellsStreamFault stream) → TellsHeld (finished stream) r
 tells_held stream (Ok body) found exact = found
 tells_held stream (Err (Fault fault)) found exact = exact
@@ -56,7 +56,7 @@ held_by (Flows asked objects true (b ∷ rest)) commands names is = absurd (cc)
 held_by (Flows asked objects false rest) commands names is = absurd (cc)
 held_by (Breaks fault) commands names is = absurd (cc)
 
--- a push into a repository that is there, where no upload is open
+-- a push into an existing repository, while no upload is open
 pub push_is : (view : View) (word body : List ℕ) (o : Option Repository) (was : Repository) → o ≡ Some was → is_some view.upload ≡ false → push_into view word body o ≡ pushed view word was (finished (stream_of body))
 push_is view word body o was here none =
     ap (push_into view word body) here ∙ ap (λ b. cond b (Refused UploadOpen, view) (pushed view word was (finished (stream_of body)))) none
@@ -65,7 +65,7 @@ push_is view word body o was here none =
 pub end_is : (view : View) (word : List ℕ) (o : Option Repository) (was : Repository) (upload : UploadValue) → o ≡ Some was → view.upload ≡ Some upload → end_in view word o ≡ pushed view word was (finished upload.stream)
 end_is view word o was upload here waits = ap (end_in view word) here ∙ ap (upload_into view word was) waits
 
--- a row that ends the upload is answered with a host fault: the upload stays
+-- if a host fault answers a row that ends the upload, the upload stays
 pub ended_failed : (row : Reply × View) (old : View) (reply : Reply) (new : View) → is_host_fault row.0 ≡ false → is_host_fault reply ≡ true → Yields row old reply new → Yields (upload_ended row) old reply new
 ended_failed row old reply new model failed (Yielded told is) = (let differs : ⊥ = cc (sym failed ∙ ap is_host_fault told ∙ model) in absurd differs)
 ended_failed row old reply new model failed (Lacking wanting stays) = Lacking wanting stays

@@ -24,12 +24,12 @@ use Rattle.fork_host.specs.Shown.{Account, seen_by, shown}
 use Rattle.fork_host.proofs.BoundLemmas.{bounded_gains, bounded_read, gains_read}
 use Rattle.fork_host.proofs.SafeLemmas.{read_safe, read_uses}
 
--- a source that is asked is a handle that was used
+-- asking the source is a use of the handle
 pub asked_uses : {S : Type 0} (old new : Own S) (fault : Option SourceFault) → IsAsked (own_state old) (own_state new) fault → Uses [] old new
 asked_uses old new fault asked =
     read_uses old new (ap (λ base. base.1) asked.base) (λ h. ap (λ rest. rest.0) (asked.rest h)) asked.honest (ap (λ base. base.2) asked.base) (record { vault = ap (λ base. base.0.0) asked.base; tenant = ap (λ base. base.0.1) asked.base })
 
--- and a vault that was read
+-- and a reading of the vault
 pub asked_read : {S : Type 0} (old new : Own S) (fault : Option SourceFault) → IsAsked (own_state old) (own_state new) fault → ReadsStore old.vault.now new.vault.now fault
 asked_read old new fault asked = record { honest = asked.honest; counted = asked.counted; files = λ h. ap (λ rest. rest.1) (asked.rest h); places = ap (λ base. base.2) asked.base; undamaged = asked.undamaged }
 
@@ -56,7 +56,7 @@ query_gives view account old new model (Ok text) reply honest tells asked is = Y
 query_gives view account old new model (Err (query.Refused refusal)) reply honest tells asked is = Yielded (is ∙ sym (ap reply_of tells)) (ap plain (stays account old new _ honest asked))
 query_gives view account old new model (Err (query.Failed fault)) reply honest tells asked is = Faulted (fault_told fault) is (ap plain (stays account old new _ honest asked))
 
--- a row about a repository that is there, and about few items
+-- a row about an existing repository, and about few items
 pub named_is : (view : View) (word : List ℕ) (row : Reply × View) → is_plain_name 64 word ≡ true → named_repository view word row ≡ row
 named_is view word row is = ap (λ b. cond b row (Refused (BadName word), view)) is
 

@@ -12,7 +12,7 @@ use Rattle.fork_ledger.specs.declared.fault.VaultFault.TheVariants as vault
 use Rattle.fork_ledger.specs.Store as ledger
 use Rattle.fork_host.specs.Rows.{read_told}
 
--- what holds of what was found is told
+-- what holds of what was found holds of what is reported
 pub if_told : (P Q : Option Object → Type 0) → ((found : Option Object) → P found → Q found) → (r : Result (Option Object) VaultFault) (t : Result (Option Object) SourceFault) → t ≡ read_told r → IfOk r P → IfOk t Q
 if_told P Q weaker (Ok found) t is holds = subst (λ t'. IfOk t' Q) (sym is) (weaker found holds)
 if_told P Q weaker (Err fault) t is holds = subst (λ t'. IfOk t' Q) (sym is) tt
@@ -24,7 +24,7 @@ counts (Err vault.Damaged) before now is = is
 counts (Err vault.Memory) before now is = is
 counts (Err vault.Collision) before now is = is
 
--- a failure is counted alike
+-- a failure is counted the same
 pub told_counts : {A : Type 0} (r : Result A VaultFault) (t : Result A SourceFault) (before now : ℕ) → t ≡ read_told r → ledger.CountsFault before now (fault_in r) → CountsFault before now (fault_in t)
 told_counts {A = A} r t before now is counted = subst (λ (t' : Result A SourceFault). CountsFault before now (fault_in t')) (sym is) (counts r before now counted)
 
@@ -35,11 +35,6 @@ undamaged (Err vault.Damaged) apart whole damaged = whole refl
 undamaged (Err vault.Memory) apart whole damaged = (let differs : ⊥ = cc in differs)
 undamaged (Err vault.Collision) apart whole damaged = apart refl
 
--- what is whole is told as no damage
+-- a read without damage reports no damage
 pub told_undamaged : {A : Type 0} (r : Result A VaultFault) (t : Result A SourceFault) → t ≡ read_told r → IfErr r (λ fault. fault ≢ vault.Collision) → fault_in r ≢ Some vault.Damaged → fault_in t ≢ Some Damaged
 told_undamaged {A = A} r t is apart whole damaged = undamaged r apart whole (ap (λ (t' : Result A SourceFault). fault_in t') (sym is) ∙ damaged)
-
--- what was done is told so
-pub ok_told : {A : Type 0} (r : Result A VaultFault) (t : Result A SourceFault) → t ≡ read_told r → IsOk r → IsOk t
-ok_told (Ok found) t is ok = ap is_ok is
-ok_told (Err fault) t is ok = absurd (cc)

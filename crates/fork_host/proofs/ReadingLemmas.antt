@@ -25,7 +25,7 @@ use Rattle.fork_host.proofs.GatherLemmas.{taken_more}
 use Rattle.fork_host.proofs.RecallLemmas.{one_whole}
 use Rattle.fork_host.proofs.RestoreLemmas.{of_one}
 
--- it stands as it was where the store is as it was
+-- readings stay valid if the store does not change
 pub each_at : (h k : Bool) (fs gs : Files) (readings : ReadingMap) → k ≡ h → (IsTrue h → gs ≡ fs) → EachRead h fs readings → EachRead k gs readings
 each_at h k fs gs readings same files each = λ name reading is.
     let read = each name reading is in
@@ -79,7 +79,7 @@ reads_again honest files name readings there = record {
   all = λ h other object among whole. subst (λ n. contains_key readings n ≡ true) (sole_there name other among) there;
 }
 
--- a name under which nothing stands whole
+-- a name with no whole object on the store
 pub reads_still : (honest : Bool) (files : Files) (name : List ℕ) (readings : ReadingMap) → (IsTrue honest → (object : Object) → Whole files name object → ⊥) → Reads honest files (name ∷ []) readings readings
 reads_still honest files name readings never = record {
   each = λ each. each;
@@ -90,7 +90,7 @@ reads_still honest files name readings never = record {
 pub no_file : (files : Files) (name : List ℕ) → get files name ≡ None → (object : Object) → Whole files name object → ⊥
 no_file files name none object whole = cc (sym none ∙ whole.file)
 
--- a name under which an object stands
+-- a name with an object
 pub reads_one : (honest : Bool) (files : Files) (name : List ℕ) (object : Object) (old new : ReadingMap) → object_name object ≡ name → (IsTrue honest → Whole files name object) → new ≡ insert old name (object_reading object) → Reads honest files (name ∷ []) old new
 reads_one honest files name object old new named whole put = record {
   each = λ each other reading is. here each other reading (eq_by_cmp name_cmp other name) refl (sym (found other) ∙ is);
@@ -149,7 +149,7 @@ states_all honest files states i readings whole read state among = record {
   all = λ h. read.all h state (subst (λ (ss : States). Contains ss state) (sym (take_all i states whole)) among);
 }
 
--- over an honest store it is what was read of the objects that stand on it
+-- over an honest store, these are the readings of the objects on it
 pub are_readings : (honest : Bool) (files : Files) (names : List (List ℕ)) (readings : ReadingMap) (objects : Objects) (set : BTreeSet (List ℕ)) → set.keys ≡ names → IsTrue honest → AreRead honest files names readings → AreOnStore files names objects
     → AreReadings readings (contains name_cmp set) objects
 are_readings honest files names readings objects set are h read stored = λ name seen.

@@ -19,7 +19,7 @@ use Rattle.fork_host.specs.Own.{ChangesTenant, Stages}
 use Rattle.fork_host.specs.Read.{AreRead, RecallsRead}
 use Rattle.fork_host.proofs.OwnLemmas.{changes_still, here_changed, stages_more}
 
--- one whole object at most stands under a name
+-- at most one whole object is under a name
 pub one_whole : (files : Files) (name : List ℕ) (object other : Object) → Whole files name object → Whole files name other → object ≡ other
 one_whole files name object other whole same = one_object object other (same_Some (typed_bytes object) (typed_bytes other) (sym whole.file ∙ same.file))
 
@@ -27,7 +27,7 @@ with_one_more : (objects : Objects) (came : List Object) (object : Object) → w
 with_one_more objects [] object = refl
 with_one_more objects (first ∷ came) object = with_one_more (with_object objects first) came object
 
--- what came of the names so far, and over an honest store each that stands whole on it
+-- the objects staged for the names so far; over an honest store, each that is whole on it
 pub record Came (own : List ℕ) (names : List (List ℕ)) (at : ℕ) (both : Objects) (first now : VaultState) : Type 0 where
   pub came : List Object
   pub among : (object : Object) → Contains came object → Contains names (object_name object)
@@ -49,7 +49,7 @@ came_none own names both first changes = record {
   files = refl;
 }
 
--- one more name was asked for, and nothing came of it
+-- one more name was asked for, and nothing was staged
 came_still : (own : List ℕ) (names : List (List ℕ)) (at : ℕ) (both : Objects) (first old new : VaultState) → new.honest ≡ old.honest → new.files ≡ old.files → Becomes shape_of old.honest old.tenants new.tenants
     → ((IsTrue first.honest) → (object : Object) → Whole first.files (get_or names at []) object → ⊥) → Came own names at both first old → Came own names (at + 1) both first new
 came_still own names at both first old new honest files stays never so_far = record {
@@ -65,7 +65,7 @@ came_still own names at both first old new honest files stays never so_far = rec
     by h i object before is (inl same) = absurd (never h object (subst (λ k. Whole first.files (get_or names k []) object) same is))
     by h i object before is (inr differs) = so_far.all h i object (omega (arith, before, differs)) is
 
--- one more name was asked for, and its object came
+-- one more name was asked for, and its object was staged
 came_whole : (own name : List ℕ) (names : List (List ℕ)) (at : ℕ) (both : Objects) (first old new : VaultState) → contains_key first.tenants own ≡ true → at < length names → name ≡ get_or names at name → new.honest ≡ old.honest
     → new.files ≡ old.files → Recalls old.honest own name old.files old.tenants new.tenants → Came own names at both first old → Came own names (at + 1) both first new
 came_whole own name names at both first old new there inside is honest files recalls so_far = record {

@@ -60,7 +60,7 @@ tail_none : (b : Bool) (x : Reference) (o : Option Reference) → cond b (Some x
 tail_none true x o found = absurd (cc)
 tail_none false x o found = found
 
--- where none is found, none of them passes
+-- if none is found, none passes
 none_passes : (bad : Reference → Bool) (xs : List Reference) → find bad xs ≡ None → AllByRecursion (λ x. bad x ≡ false) xs
 none_passes bad [] none = tt
 none_passes bad (x ∷ xs) none = (head_none bad x (find bad xs) none, none_passes bad xs (tail_none (bad x) x (find bad xs) none))
@@ -107,7 +107,7 @@ commit_of_branch true true is on = refl
 commit_of_branch true false is on = absurd (cc)
 commit_of_branch false commit is on = absurd (cc)
 
--- references that were judged are such as a repository may have
+-- references that were judged are valid in a repository
 references_restored : (objects : Objects) (list : List Repository) (repository : Repository) → MayBeTold repository → find (is_bad_target (kind_in objects)) (flat_map references_in list) ≡ None → Contains list repository
     → AreReferences objects repository.references
 references_restored objects list repository told none among = record {
@@ -129,7 +129,7 @@ refilled repositories made limit = record (new_account limit) { repositories = r
 none_open : (upload : UploadValue) (G : Type 0) → ◌≡◌ {A = Option UploadValue} None (Some upload) → G
 none_open upload G is = absurd (cc)
 
--- a repository that was gathered is of the list
+-- a repository that was gathered is in the list
 gathered_among : (repositories : Repositories) (list : List (List ℕ × Repository)) (name : List ℕ) (repository : Repository) → entries repositories ≡ list → get repositories name ≡ Some repository → Contains list (name, repository)
 gathered_among repositories list name repository are here =
     subst (λ es. Contains es (name, repository)) are
@@ -180,7 +180,7 @@ module _ (own : List ℕ) (state : TenantState) (repositories : Repositories) (m
   pub others_refilled : AreToOthers state.name (shown (refilled repositories made state.limit) new own)
   others_refilled pair offer is = (let kept = shown_kept (visible_in new own) made pair offer is in (made_right pair kept.0 kept.1).to_another)
 
--- an offer whose references hold, as it is shown, holds what they reach
+-- an offer with valid references, as it is shown, holds what they reach
 reach_offered : (objects : Objects) (repository : Repository) → AreReferences objects repository.references → IsReach objects (offered objects repository)
 reach_offered objects repository right = record {
   targets = λ reference target points.
@@ -226,7 +226,7 @@ refilled_in old new tenant repositories made set are offers honest right restore
       within = restored.within;
     }
 
--- the account of a tenant that is there is set: the names stay
+-- setting the account of an existing tenant leaves the names
 pub keys_set : (accounts : FinMap name_cmp Account) (t : List ℕ) (account after : Account) → get accounts t ≡ Some account → keys (insert accounts t after) ≡ keys accounts
 keys_set accounts t account after here = same_keys (insert accounts t after) accounts (λ q. ap is_some (get-insert name_total accounts t after q) ∙ by q (eq_by_cmp name_cmp q t) refl)
   where
@@ -234,7 +234,7 @@ keys_set accounts t account after here = same_keys (insert accounts t after) acc
     by q true same = sym (ap (contains_key accounts) (tied_names q t same) ∙ ap is_some here)
     by q false apart = refl
 
--- the state stays whole where one tenant's account and part of the vault change so
+-- the state stays whole if one tenant's account and part of the vault change this way
 pub whole_set : (old new : HostState) (t : List ℕ) (account after : Account) → IsWhole old → get old.accounts t ≡ Some account → new.accounts ≡ insert old.accounts t after → IsOwn t old.vault new.vault → staged_in new.vault t ≡ empty → after.upload ≡ None
     → IsOrderly (shown after new.vault t) → AreToOthers t (shown after new.vault t) → (IsTrue new.vault.honest → IsRight (shown after new.vault t)) → IsWhole new
 whole_set old new t account after whole here set own none quiet orderly others right = record {
@@ -246,7 +246,7 @@ whole_set old new t account after whole here set own none quiet orderly others r
   staged = staged_after old new t after set own (λ q other is. whole.staged q other is) (subst (λ upload. IsStaged old.vault.honest upload (staged_in new.vault t)) (sym quiet) none);
 }
 
--- a tenant of a view
+-- the account of a tenant that has a view
 pub account_shown : (state : HostState) (t : List ℕ) (view : View) → get (world_of state) t ≡ Some view → (account : Account) × (get state.accounts t ≡ Some account) × (shown account state.vault t ≡ view)
 account_shown state t view is = by (get state.accounts t) (sym (get_world state t) ∙ is)
   where
@@ -254,7 +254,7 @@ account_shown state t view is = by (get state.accounts t) (sym (get_world state 
     by None none = absurd (cc)
     by (Some account) same = (account, refl, ap (λ v. unwrap_or v (shown account state.vault t)) same)
 
--- a tenant that was added is there
+-- a tenant that was added exists
 pub added_there : (world after : World) (t name : List ℕ) (view : View) → name ≡ t → after ≡ insert world name view → get after t ≡ Some view
 added_there world after t name view same added =
     ap (λ (w : World). get w t) (added ∙ ap (λ n. insert world n view) same) ∙ get-insert name_total world t view t ∙ ap (λ b. cond b (Some view) (get world t)) ((eq_by_cmp_equiv name_total).refl t)

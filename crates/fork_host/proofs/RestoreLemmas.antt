@@ -53,18 +53,18 @@ not_bad_in bad (key ∷ names) name none is =
     by true tied found good rest = ap bad (tied_names name key tied) ∙ good
     by false apart found good rest = rest found
 
--- where none of the names is bad, this one isn't
+-- if none of the names is bad, this one is not
 pub not_bad : (names : List (List ℕ)) (objects : Objects) (name : List ℕ) → first_bad names objects ≡ None → is_one_of names name ≡ true → is_bad objects (is_one_of names) name ≡ false
 not_bad names objects name none is = not_bad_in (is_bad objects (is_one_of names)) names name (none_bad (is_bad objects (is_one_of names)) names none) is
 
 nothing_in : (name : List ℕ) (object : Object) (G : Type 0) → get (empty {K = List ℕ} {X = Object} {R = name_cmp}) name ≡ Some object → G
 nothing_in name object G is = absurd (cc (sym (get-empty {X = Object} name_cmp name) ∙ is))
 
--- objects that came stand under their own names
+-- objects that were added are under their own names
 pub named_came : (came : List Object) → IsNamed (with_objects empty came)
 named_came came = named_all empty came (λ name object is. nothing_in name object _ is)
 
--- they are those that stand whole on the store
+-- they are those that are whole on the store
 pub on_store : (files : Files) (names : List (List ℕ)) (arrived : List Object) → ((object : Object) → Contains arrived object → Contains names (object_name object)) → ((object : Object) → Contains arrived object → Whole files (object_name object) object)
     → ((name : List ℕ) (object : Object) → Contains names name → Whole files name object → Contains arrived object) → AreOnStore files names (with_objects empty arrived)
 on_store files names arrived among whole all = record {
@@ -87,7 +87,7 @@ on_store files names arrived among whole all = record {
     found name object stored None is there = absurd (cc (sym (ap is_some is) ∙ there))
     found name object stored (Some other) is there = is ∙ ap Some (one_whole files name other object (stands name other is) stored)
 
--- where none of those that are seen is bad, all are in their grammars, and their links are met
+-- if no seen name is bad, all objects are in their grammars, and their links are met
 pub right_seen : (files : Files) (names : List (List ℕ)) (objects : Objects) → ((name : List ℕ) (object : Object) → get objects name ≡ Some object → Contains names name) → first_bad names objects ≡ None → AreRight objects
 right_seen files names objects among none name object is =
     (good_found objects (is_one_of names) name object (not_bad names objects name none (one_of names name (among name object is))) is).right
@@ -98,11 +98,11 @@ closed_seen files names objects among none name object is =
     (λ other seen. good_there objects (is_one_of names) other (not_bad names objects other none seen))
     (good_found objects (is_one_of names) name object (not_bad names objects name none (one_of names name (among name object is))) is).met
 
--- the first bad one of a set is that of its names
+-- the first bad name of a set is that of the list of its names
 pub bad_by : (set : BTreeSet (List ℕ)) (names : List (List ℕ)) (objects : Objects) → set.keys ≡ names → bad_in set objects ≡ first_bad names objects
 bad_by set names objects is = ap (λ keys. first_bad keys objects) is
 
--- what stands against the objects that are seen, by those on the store
+-- what is wrong with the objects that are seen, by those on the store
 pub stands_against : (files : Files) (state : TenantState) (set : BTreeSet (List ℕ)) (visible both objects : Objects) → set.keys ≡ state.seen → visible ≡ objects → both ≡ objects → AreOnStore files state.seen objects
     → (against : Against) → IsAgainst set state visible both against → StandsAgainst files state against
 stands_against files state set visible both objects are seen all stored NoMemory is = tt
@@ -113,7 +113,7 @@ stands_against files state set visible both objects are seen all stored (Astray 
 stands_against files state set visible both objects are seen all stored Limit is =
     record { objects = objects; stored = stored; is = (sym (bad_by set state.seen objects are) ∙ ap (bad_in set) (sym seen) ∙ is.0, ap (first_astray (repositories_in state)) (sym seen) ∙ is.1, subst (λ o. state.limit < use_of o) all is.2) }
 
--- the reference whose target is told
+-- the reference whose target is reported
 pub told_target : (found : Option (List ℕ × List ℕ)) (target : List ℕ) → Some target ≡ option_map target_of found → (reference : List ℕ) × (found ≡ Some (reference, target))
 told_target None target is = absurd (cc)
 told_target (Some (reference, found)) target is = (reference, ap (λ t. Some (reference, t)) (sym (same_target is)))

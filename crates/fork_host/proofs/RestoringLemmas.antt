@@ -36,7 +36,7 @@ use Rattle.fork_host.specs.declared.seeing.Against.TheVariants.{Memory as NoMemo
 use Rattle.fork_host.proofs.NamesLemmas.{keys_seen, same_keys}
 use Rattle.fork_host.proofs.WorldLemmas.{known_world, len_world}
 
--- a name behind all keys is none of them
+-- a name after all keys is none of them
 pub absent_behind : {X : Type 0} (values : FinMap name_cmp X) (name : List ℕ) → AreBefore (keys values) name → contains_key values name ≡ false
 absent_behind values name before = contains_key-keys values name ∙ none (keys values) before
   where
@@ -46,7 +46,7 @@ absent_behind values name before = contains_key-keys values name ∙ none (keys 
         let above = name_total.antisymm name other ∙ ap ordering_reverse (All-head (λ key. name_cmp key name ≡ Less) other names before) in
         rw above (none names (All-tail (λ key. name_cmp key name ≡ Less) other names before))
 
--- one key behind the others
+-- one more key, after the others
 pub keys_more : {X : Type 0} (values : FinMap name_cmp X) (name : List ℕ) (value : X) → AreBefore (keys values) name → keys (insert values name value) ≡ keys values ++ name ∷ []
 keys_more values name value before = keys_behind values (insert values name value) name value (entries_behind values name value before)
 
@@ -54,7 +54,7 @@ keys_more values name value before = keys_behind values (insert values name valu
 pub keys_world : (state : HostState) → keys (world_of state) ≡ keys state.accounts
 keys_world state = same_keys (world_of state) state.accounts (known_world state)
 
--- what is put in twice is what is put in last
+-- of two values put under one name, the last one counts
 pub put_twice : {X : Type 0} (values : FinMap name_cmp X) (name : List ℕ) (first last : X) → insert (insert values name first) name last ≡ insert values name last
 put_twice {X = X} values name first last =
     same_map name_total name_exact _ _ (λ q. get-insert name_total (insert values name first) name last q ∙ ap (cond (eq_by_cmp name_cmp q name) (Some last)) (get-insert name_total values name first q)
@@ -79,7 +79,7 @@ refilled_more files tenant old mid new view added refilled = record {
   within = refilled.within;
 }
 
--- of a tenant that sees again what it saw: its objects, its targets, its limit
+-- a tenant that sees again what it saw has its objects, its targets and its limit
 has_objects : (files : Files) (tenant : TenantState) (old new : World) → IsRefilledIn files tenant old new → HasObjects files tenant
 has_objects files tenant old new r = record { objects = r.stored.objects; stored = r.stored.stored; is = r.stored.is.1 }
 
@@ -89,7 +89,7 @@ has_targets files tenant old new r = record { objects = r.stored.objects; stored
 keeps_limit : (files : Files) (tenant : TenantState) (old new : World) → IsRefilledIn files tenant old new → KeepsLimit files tenant
 keeps_limit files tenant old new r = record { objects = r.stored.objects; stored = r.stored.stored; is = subst (λ objects. use_of objects ≤ tenant.limit) (sym r.stored.is.0) r.within }
 
--- the first of more states
+-- the first tenant stays the first when states are added
 first_more : {P : TenantState → Type 0} (states : States) (tenant last : TenantState) → AllBefore P states tenant → AllBefore P (states ++ last ∷ []) tenant
 first_more states tenant last first = record {
   front = first.front;
@@ -101,7 +101,7 @@ first_more states tenant last first = record {
 first_last : {P : TenantState → Type 0} (states : States) (tenant : TenantState) → AllByRecursion P states → AllBefore P (states ++ tenant ∷ []) tenant
 first_last states tenant all = record { front = states; back = []; parts = refl; before = all }
 
--- nothing stands against the states so far, and the world shows them
+-- nothing is wrong with the states so far, and the world shows them
 pub record IsFree (files : Files) (states : States) (world : World) : Type 0 where
   pub targets : AllByRecursion (HasTargets files) states
   pub limits : AllByRecursion (KeepsLimit files) states
@@ -127,7 +127,7 @@ IsNoted files states world Nothing = IsFree files states world
 IsNoted files states world (Target target) = IsAstray files states target
 IsNoted files states world (Over name) = IsOverLimit files states name
 
--- how far it is: the objects of the states so far are there, and what stands against them is noted
+-- the progress so far: the objects of these states exist, and what is wrong with the states is noted
 pub record Going (files : Files) (states : States) (state : HostState) (later : Later) : Type 0 where
   pub objects : AllByRecursion (HasObjects files) states
   pub noted : IsNoted files states (world_of state) later
@@ -209,7 +209,7 @@ noted_more files states tenant old new Nothing (Err Limit) before ascend r none 
 noted_more files states tenant old new (Target target) (Err Limit) before ascend r none noted = astray_more files states tenant target noted
 noted_more files states tenant old new (Over name) (Err Limit) before ascend r none noted = over_more files states tenant name (targets_met files tenant r) noted
 
--- its objects are there, where they are not told at once
+-- its objects exist, unless something is reported at once
 objects_met : (files : Files) (tenant : TenantState) (old new : World) (judged : Result (Unit {0}) Against) → IsJudged files tenant old new judged → told_at_once judged ≡ None → HasObjects files tenant
 objects_met files tenant old new (Ok done) r none = has_objects files tenant old new r
 objects_met files tenant old new (Err NoMemory) r none = absurd (cc)
@@ -253,12 +253,12 @@ going_none files state none same = record {
 the_same : (told error : RestoreError) → ◌≡◌ {A = Option RestoreError} (Some told) (Some error) → told ≡ error
 the_same told error is = cc
 
--- want of memory or of the store
+-- lack of memory, or a failing store
 pub of_fault : (files : Files) (states : States) (error : RestoreError) → IsStoreOrMemory error → AreRefused files states error
 of_fault files states error (inl is) = subst (AreRefused files states) (sym is) WantsStore
 of_fault files states error (inr is) = subst (AreRefused files states) (sym is) WantsMemory
 
--- what is told at once
+-- what is reported at once
 pub told_bad : (files : Files) (states : States) (tenant : TenantState) (back all : States) (old new : HostState) (later : Later) (judged : Result (Unit {0}) Against) (bad : Bad) (error : RestoreError) → all ≡ states ++ tenant ∷ back → Going files states old later
     → IsJudged old.vault.files tenant (world_of old) (world_of new) judged → told_at_once judged ≡ Some bad → IsWhy files bad error → AreRefused files all error
 told_bad files states tenant back all old new later (Ok done) bad error parts so_far is told why = absurd (cc)
@@ -272,7 +272,7 @@ told_bad files states tenant back all old new later (Err (BadObject name)) (Obje
 told_bad files states tenant back all old new later (Err (Astray target)) bad error parts so_far is told why = absurd (cc)
 told_bad files states tenant back all old new later (Err Limit) bad error parts so_far is told why = absurd (cc)
 
--- what is told at the end
+-- what is reported at the end
 pub told_late : (files : Files) (states : States) (state : HostState) (later : Later) (error : RestoreError) → Going files states state later → first_told later ≡ Some error → AreRefused files states error
 told_late files states state Nothing error so_far told = absurd (cc)
 told_late files states state (Target target) error so_far told =
@@ -290,7 +290,7 @@ pub judged_more : (files : Files) (tenant : TenantState) (old mid new : World) (
 judged_more files tenant old mid new view added (Ok done) is = refilled_more files tenant old mid new view added is
 judged_more files tenant old mid new view added (Err against) is = is
 
--- it is behind the others
+-- it comes after the others
 pub is_behind : (name : List ℕ) (old new : List (List ℕ)) → new ≡ old ++ name ∷ [] → (judged : Result (Unit {0}) Against) → IsBehind name old new judged
 is_behind name old new is (Ok done) = is
 is_behind name old new is (Err NoMemory) = tt
@@ -305,10 +305,10 @@ behind_is name old new (Err (BadObject bad)) none is = absurd (cc)
 behind_is name old new (Err (Astray target)) none is = is
 behind_is name old new (Err Limit) none is = is
 
--- as many as names
+-- there are as many keys as entries
 pub len_keys : {X : Type 0} (values : FinMap name_cmp X) → len values ≡ length (keys values)
 len_keys values = len-entries values ∙ sym (length-map (entries values) (λ entry. entry.0))
 
--- none at first
+-- at first there are no tenants
 pub no_tenants : (state : HostState) → world_of state ≡ empty → keys state.accounts ≡ []
 no_tenants state none = nothing_in (keys state.accounts) (let counted = len_keys state.accounts in let same = len_world state in let empty_is = ap (λ (w : World). len w) none ∙ len-empty name_cmp View in omega (arith, counted, same, empty_is))

@@ -15,7 +15,7 @@ use Rattle.fork_model.proofs.SoundLemmas.{right_answer}
 use Rattle.fork_host.specs.Rows.{plain, KeepsObjects, Kept, Unkept, Gives, Given, Wanting, Yields, Yielded, Lacking, Faulted}
 use Rattle.fork_host.proofs.MadeLemmas.{IsShown, same_plain, shown_right}
 
--- what is plain of the new view decides it, as answers keep views right
+-- the plain part of the new view determines the view, since answers keep views right
 pub answers_of : (context : Context) (view new : View) (ask : Ask) (reply : Reply) → IsSoundBeside context view.objects → IsSound view → IsShown new → Yields (answer context view ask) view reply new → Answers context view ask reply new
 answers_of context view new ask reply beside sound shown (Yielded told is) = Told told (same_plain new (answer context view ask).1 shown (shown_right (answer context view ask).1 (right_answer context view ask beside sound)) is)
 answers_of context view new ask reply beside sound shown (Lacking wanting stays) = Failed (ap is_host_fault wanting) (same_plain new view shown (shown_right view sound.right) stays)
@@ -26,7 +26,7 @@ pub yields_of : (row : Reply × View) (old new : View) (reply : Reply) → Gives
 yields_of row old new reply (Given told is) = Yielded told (ap plain is)
 yields_of row old new reply (Wanting wanting stays) = Lacking wanting (ap plain stays)
 
--- what is told of a view is told of each that is plainly the same
+-- what holds of a view holds of each view with the same plain part
 pub yields_plain : (row : Reply × View) (old now new : View) (reply : Reply) → plain new ≡ plain now → Yields row old reply now → Yields row old reply new
 yields_plain row old now new reply same (Yielded told is) = Yielded told (same ∙ is)
 yields_plain row old now new reply same (Lacking wanting stays) = Lacking wanting (same ∙ stays)

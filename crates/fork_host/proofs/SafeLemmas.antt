@@ -44,16 +44,16 @@ use Rattle.fork_host.proofs.MadeLemmas.{found_made, len_made, same_made}
 use Rattle.fork_host.proofs.OwnLemmas.{own_read, staged_read}
 use Rattle.fork_host.proofs.ShapeLemmas.{shape_but_upload}
 
--- how many bytes an upload has, where one is open
+-- how many bytes an open upload has
 abbrev pub count_in : Option UploadValue → Option ℕ
 count_in upload = option_map (λ waits. waits.count) upload
 
--- whichever objects it has
+-- whichever objects are staged
 pub same_count : (upload : Option Reading) (objects others : Objects) → count_in (option_map (upload_among objects) upload) ≡ count_in (option_map (upload_among others) upload)
 same_count None objects others = refl
 same_count (Some reading) objects others = refl
 
--- references that objects bear, others of the same measures bear
+-- references that are valid over objects are valid over others of the same measures
 references_measured : (objects others : Objects) (references : References) → measures_of others ≡ measures_of objects → AreReferences objects references → AreReferences others references
 references_measured objects others references same right = record {
   each = λ reference target is.
@@ -67,7 +67,7 @@ references_measured objects others references same right = record {
   few = right.few;
 }
 
--- an open upload keeps its limit by how many bytes it has
+-- an open upload stays within its limit if it has the same number of bytes
 upload_counted : (upload other : Option UploadValue) → count_in other ≡ count_in upload → ((waits : UploadValue) → upload ≡ Some waits → waits.count ≤ MAX_UPLOAD) → (waits : UploadValue) → other ≡ Some waits → waits.count ≤ MAX_UPLOAD
 upload_counted upload None counted each waits is = absurd (cc)
 upload_counted None (Some other) counted each waits is = (let differs : ⊥ = cc (sym counted) in absurd differs)
@@ -75,7 +75,7 @@ upload_counted (Some upload) (Some other) counted each waits is =
     let same : upload.count ≡ waits.count = cc in
     subst (λ n. n ≤ MAX_UPLOAD) same (each upload refl)
 
--- views that tell alike of what is neither repositories nor objects: how many bytes an upload has, and of which repositories offers are
+-- views that agree in how many bytes an upload has and in which repositories are offered
 pub record AreAlike (rest other : View) : Type 0 where
   pub counted : count_in other.upload ≡ count_in rest.upload
   pub made : made_of other.made ≡ made_of rest.made
@@ -83,7 +83,7 @@ pub record AreAlike (rest other : View) : Type 0 where
 pub alike_itself : (view : View) → AreAlike view view
 alike_itself view = record { counted = refl; made = refl }
 
--- a tenant's views, whatever it sees
+-- the views of one account agree in this, whatever is seen
 pub alike_shown : (account : Account) (before after : Private) → AreAlike (seen_by account before) (seen_by account after)
 alike_shown account before after = record { counted = same_count account.upload after.staged before.staged; made = same_made account.made before.visible after.visible }
 
@@ -96,7 +96,7 @@ offer_measured seen objects pair was offer same is right = record {
   references = references_measured seen objects offer.repository.references same (subst (λ (r : Repository). AreReferences seen r.references) is right.references);
 }
 
--- a view is in order by its objects' measures, its upload's count and its offers' repositories
+-- the measures of objects, the upload's count and the offers' repositories determine whether a view is in order
 pub orderly_measured : (repositories : Repositories) (seen objects : Objects) (rest other : View) (limit : ℕ) → measures_of objects ≡ measures_of seen → AreAlike rest other
     → IsOrderly (view_of rest repositories seen limit) → IsOrderly (view_of other repositories objects limit)
 orderly_measured repositories seen objects rest other limit same alike orderly = record {
@@ -115,7 +115,7 @@ pub shape_measured : (repositories : Repositories) (seen objects : Objects) (res
     → view_shape (view_of other repositories objects limit) ≡ view_shape (view_of rest repositories seen limit)
 shape_measured repositories seen objects rest other limit same made = λ i. record { repositories = repositories; made = made i; objects = same i; limit = limit }
 
--- an answer that leaves the repositories and what is seen, over any store as far as its measures go, and the rest alike
+-- an answer that leaves the repositories, the measures of what is seen, and the rest as in these views
 pub safe_left : (Within : Reply → Type 0) (repositories now : Repositories) (seen objects : Objects) (rest other : View) (limit : ℕ) (reply : Reply) → now ≡ repositories → measures_of objects ≡ measures_of seen → AreAlike rest other
     → Within reply → IsSafe Within (view_of rest repositories seen limit) reply (view_of other now objects limit)
 safe_left Within repositories now seen objects rest other limit reply stays same alike faults =
@@ -125,7 +125,7 @@ safe_left Within repositories now seen objects rest other limit reply stays same
       faults = faults;
     })
 
--- what is safe from a view on, is safe from each view of its measures on
+-- an answer that is safe from a view is safe from each view of the same measures
 pub safe_from : (Within Over : Reply → Type 0) (repositories : Repositories) (seen objects : Objects) (rest : View) (limit : ℕ) (reply : Reply) (new : View) → measures_of objects ≡ measures_of seen → (Over reply → Within reply)
     → IsSafe Over (view_of rest repositories objects limit) reply new → IsSafe Within (view_of rest repositories seen limit) reply new
 safe_from Within Over repositories seen objects rest limit reply new same within safe = record {
@@ -134,7 +134,7 @@ safe_from Within Over repositories seen objects rest limit reply new same within
   faults = within safe.faults;
 }
 
--- what is safe, is safe with each rest that tells alike
+-- and with each rest that agrees
 pub safe_rest : (Within : Reply → Type 0) (old : View) (repositories : Repositories) (objects : Objects) (rest other : View) (limit : ℕ) (reply : Reply) → AreAlike rest other → IsSafe Within old reply (view_of rest repositories objects limit)
     → IsSafe Within old reply (view_of other repositories objects limit)
 safe_rest Within old repositories objects rest other limit reply alike safe = record {
@@ -143,7 +143,7 @@ safe_rest Within old repositories objects rest other limit reply alike safe = re
   faults = safe.faults;
 }
 
--- the upload goes
+-- the upload is discarded
 pub safe_ended : (Within : Reply → Type 0) (old new : View) (reply : Reply) → IsSafe Within old reply new → IsSafe Within old reply (without_upload new)
 safe_ended Within old new reply safe = record {
   orderly = λ before. orderly_without new (safe.orderly before);
@@ -151,7 +151,7 @@ safe_ended Within old new reply safe = record {
   faults = safe.faults;
 }
 
--- an answer of the model that looks at nothing offered is safe, and so is want of memory
+-- an answer of the model that looks at no offer is safe, and so is lack of memory
 pub safe_gives : (Within : Reply → Type 0) (tenant : List ℕ) (view new : View) (ask : Ask) (reply : Reply) → Within reply → Gives (answer (nothing_offered tenant) view ask) view reply new → IsSafe Within view reply new
 safe_gives Within tenant view new ask reply within (Given told is) = record {
   orderly = λ before. subst IsOrderly (sym is) (orderly_answer (nothing_offered tenant) view ask (none_taken tenant view.objects) before);
@@ -173,7 +173,7 @@ safe_pruned Within view objects other reply alike within (Pruned kept done same 
 }
 safe_pruned Within view objects other reply alike within (Unpruned fault failed same) = safe_left Within view.repositories view.repositories view.objects objects view other view.limit reply refl same alike within
 
--- a push that was accepted and is done: what is seen and staged is seen
+-- an accepted push that succeeds: what was staged is seen
 pub safe_taken : (Within : Reply → Type 0) (repositories now : Repositories) (seen both objects : Objects) (rest : View) (limit : ℕ) (name : List ℕ) (old : Repository) (new : References) (reply : Reply) (text : List ℕ)
     → ((q : List ℕ) → contains_key seen q ≡ true → get both q ≡ get seen q) → Within reply → reply ≡ Done text → get repositories name ≡ Some old → now ≡ insert repositories name (record old { references = new }) → measures_of objects ≡ measures_of both
     → verdict.IsAcceptable both old.references limit new → IsSafe Within (view_of rest repositories seen limit) reply (view_of rest now objects limit)
@@ -186,7 +186,7 @@ safe_taken Within repositories now seen both objects rest limit name old new rep
       faults = within;
     })
 
--- a vault that is read alone: the handle was used, and the answer is safe
+-- a vault that is only read: the handle was used, and the answer is safe
 pub read_uses : {S : Type 0} (old new : Own S) → vault_shape new.vault.now.tenants ≡ vault_shape old.vault.now.tenants → (IsTrue old.vault.now.honest → new.vault.now.tenants ≡ old.vault.now.tenants)
     → new.vault.now.honest ≡ old.vault.now.honest → new.vault.now.places ≡ old.vault.now.places → IsSame old new → Uses [] old new
 read_uses old new shape kept honest places same = record {

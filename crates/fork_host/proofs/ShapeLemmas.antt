@@ -5,7 +5,7 @@ use Rattle.fork_model.specs.Answer.{without_upload}
 use Rattle.fork_model.specs.View.{View}
 use Rattle.fork_host.specs.Shape.{Shape, repositories_offered, view_shape}
 
--- views that differ in their uploads at the most have the same shape
+-- views that differ at most in their uploads have the same shape
 pub shape_but_upload : (new old : View) → without_upload new ≡ without_upload old → view_shape new ≡ view_shape old
 shape_but_upload new old same = ap view_shape same
 
@@ -13,6 +13,6 @@ offers_shaped : (o : Option View) → option_map repositories_offered o ≡ opti
 offers_shaped None = refl
 offers_shaped (Some view) = refl
 
--- tenants of one shape have made offers of the same repositories
+-- tenants of the same shape have offered the same repositories
 pub same_offers : (a b : Option View) → option_map view_shape a ≡ option_map view_shape b → option_map repositories_offered a ≡ option_map repositories_offered b
 same_offers a b same = offers_shaped a ∙ ap (option_map (λ (s : Shape). s.made)) same ∙ sym (offers_shaped b)

@@ -37,7 +37,7 @@ use Rattle.fork_host.specs.Staged.{Came, IsSentName, IsStaged}
 use Rattle.fork_host.proofs.OwnLemmas.{own_made}
 
 -- ---- objects that are staged, name by name
--- what was there under a name still is
+-- what was under a name still is
 kept_under : (objects : Objects) (name : List ℕ) (x : Object) (q : List ℕ) → contains_key objects q ≡ true → get (with_under objects name x) q ≡ get objects q
 kept_under objects name x q there = by (contains_key objects name) refl
   where
@@ -49,7 +49,7 @@ kept_under objects name x q there = by (contains_key objects name) refl
     by true is = refl
     by false is = get-insert name_total objects name x q ∙ apart (eq_by_cmp name_cmp q name) refl is
 
--- what comes under a name is there
+-- what is added under a name is found there
 here_under : (objects : Objects) (name : List ℕ) (x : Object) → contains_key (with_under objects name x) name ≡ true
 here_under objects name x = by (contains_key objects name) refl
   where
@@ -57,7 +57,7 @@ here_under objects name x = by (contains_key objects name) refl
     by true there = there
     by false absent = ap is_some (get-insert name_total objects name x name) ∙ ap (λ order. is_some (cond (is_eq order) (Some x) (get objects name))) (tied_itself name_total name)
 
--- and nothing else
+-- and nothing else is added
 alone_under : (objects : Objects) (name : List ℕ) (x : Object) (q : List ℕ) → contains_key (with_under objects name x) q ≡ true → (contains_key objects q ≡ true) ⊎ (name ≡ q)
 alone_under objects name x q = by (contains_key objects name)
   where
@@ -69,7 +69,7 @@ alone_under objects name x q = by (contains_key objects name)
     by true is = inl is
     by false is = at (eq_by_cmp name_cmp q name) refl (sym (ap is_some (get-insert name_total objects name x q)) ∙ is)
 
--- the same of objects one after another: what was staged stays as it is, each of them is there, and no others
+-- after several objects: what was staged stays, each of them is found, and no others
 all_kept : (objects : List Object) (own : Private) (q : List ℕ) → contains_key own.staged q ≡ true → get (with_all_staged objects own).staged q ≡ get own.staged q
 all_kept [] own q there = refl
 all_kept (object ∷ objects) own q there =
@@ -93,8 +93,8 @@ all_alone (object ∷ objects) own q is =
       | inr later ↦ inr (later.0, found_behind object later.0 objects later.1, later.2)
     ]
 
--- ---- what was sent and what comes
--- over any store: their names are there
+-- ---- what was sent and what is added
+-- over any store: the names are found
 names_more : (sent objects : List Object) (own : Private) (new : Objects) → measures_of new ≡ measures_of (with_all_staged objects own).staged
     → AllByRecursion (λ object. contains_key own.staged (object_name object) ≡ true) sent → AllByRecursion (λ object. contains_key new (object_name object) ≡ true) (sent ++ objects)
 names_more sent objects own new same there = each_both Is sent objects (each_weaker Was Is sent still there) (each_weaker Now Is objects came (all_there objects own))
@@ -114,7 +114,7 @@ names_more sent objects own new same there = each_both Is sent objects (each_wea
     still : (object : Object) → Was object → Is object
     still object was = came object (ap is_some (all_kept objects own (object_name object) was) ∙ was)
 
--- and no others
+-- and no others are
 alone_more : (sent objects : List Object) (own : Private) (new : Objects) → measures_of new ≡ measures_of (with_all_staged objects own).staged
     → ((name : List ℕ) → contains_key own.staged name ≡ true → IsSentName sent name) → (name : List ℕ) → contains_key new name ≡ true → IsSentName (sent ++ objects) name
 alone_more sent objects own new same alone name is =
@@ -149,8 +149,8 @@ exact_more sent objects own each are = record {
         let itself : came.0 ≡ object = cc found in
         record { sent = Contains-append_right sent objects object (subst (Contains objects) itself came.1); named = ap object_name (sym itself) ∙ came.2 }
 
--- ---- a stream with a piece more
--- behind what stood before there are the objects of both, unless it breaks
+-- ---- a stream with one more piece
+-- a stream put after some objects has these and its own, unless it breaks
 sent_behind : (commands : List Command) (objects : List Object) (s : Stream) → is_broken (flow_of (behind commands objects s)) ≡ false → sent_in (behind commands objects s) ≡ objects ++ sent_in s
 sent_behind commands objects (Flows others more headed rest) whole = refl
 sent_behind commands objects (Breaks fault) whole = absurd (cc)
@@ -171,17 +171,17 @@ broken_sent : (s : Stream) → is_broken (flow_of s) ≡ true → sent_in s ≡ 
 broken_sent (Flows commands objects headed rest) broken = absurd (cc)
 broken_sent (Breaks fault) broken = refl
 
--- nothing holds no objects
+-- an empty stream has no objects
 none_sent : sent_in (stream_of []) ≡ []
 unfolding stream_of
 none_sent = refl
 
--- what is known of the bytes with a piece more
+-- what is known of the bytes with one more piece
 read_more : (bytes piece : List ℕ) (reading new : Reading) → new ≡ read_on reading piece → reading_of bytes ≡ reading → reading_of (bytes ++ piece) ≡ new
 read_more bytes piece reading new is read = reading_joins bytes piece ∙ ap (λ r. read_on r piece) read ∙ sym is
 
--- ---- what came, piece by piece
--- where the bytes hold no objects, none are staged
+-- ---- what was received, piece by piece
+-- if the bytes hold no objects, none are staged
 came_empty : (honest : Bool) (bytes : List ℕ) (reading : Reading) (staged : Objects) → reading_of bytes ≡ reading → sent_in (stream_of bytes) ≡ [] → staged ≡ empty → Came honest bytes reading staged
 came_empty honest bytes reading staged read none is = record {
   read = read;
@@ -196,7 +196,7 @@ came_empty honest bytes reading staged read none is = record {
     nothing : (name : List ℕ) → get staged name ≡ None
     nothing name = ap (λ objects. get objects name) is ∙ get-empty {X = Object} name_cmp name
 
--- nothing came yet
+-- nothing was received yet
 pub came_none : (honest : Bool) (staged : Objects) → staged ≡ empty → Came honest [] (reading_of []) staged
 came_none honest staged is = came_empty honest [] (reading_of []) staged refl none_sent is
 
@@ -237,7 +237,7 @@ came_more own bytes piece reading new objects a b is whole brings changes each c
         subst (λ now. AreSent now (sent ++ objects)) (sym same)
         (exact_more sent objects before (subst (λ now. AllByRecursion (λ object. get now (object_name object) ≡ Some object) objects) same found) are)
 
--- what is staged stays, over any store its measures
+-- what is staged stays, over any store by its measures
 pub came_still : (honest : Bool) (bytes : List ℕ) (reading : Reading) (staged now : Objects) → measures_of now ≡ measures_of staged → (IsTrue honest → now ≡ staged) → Came honest bytes reading staged → Came honest bytes reading now
 came_still honest bytes reading staged now shape same came = record {
   read = came.read;
@@ -253,8 +253,8 @@ staged_still honest (Some reading) staged now shape same is = (is.0, came_still 
 pub staged_kept_still : (old new : VaultState) (own : List ℕ) (upload : Option Reading) → KeepsStaged own old new → IsStaged old.honest upload (staged_in old own) → IsStaged old.honest upload (staged_in new own)
 staged_kept_still old new own upload keeps is = staged_still old.honest upload (staged_in old own) (staged_in new own) keeps.shape keeps.exact is
 
--- ---- what is known of it
--- what a piece brings is among what the bytes hold with it
+-- ---- what is known of the upload
+-- the objects that a piece brings are among those of all bytes
 dropped_among : {A : Type 0} (n : ℕ) (xs : List A) (x : A) → Contains (drop n xs) x → Contains xs x
 dropped_among n xs x at = subst (λ ys. Contains ys x) (take-append-drop n xs) (Contains-append_right (take n xs) (drop n xs) x at)
 
@@ -263,10 +263,10 @@ gained_among bytes piece reading objects read brings object among =
     let all : objects ≡ gained_by bytes piece = brings ∙ ap (λ (r : Reading). gained r.flow piece) (sym read) ∙ sym (gained_is bytes piece) in
     dropped_among (length (sent_in (stream_of bytes))) (sent_in (stream_of (bytes ++ piece))) object (subst (λ xs. Contains xs object) all among)
 
--- over an honest store it is the upload of the bytes that came
+-- over an honest store it is the upload of the bytes that were received
 pub came_upload : (bytes : List ℕ) (reading : Reading) (honest : Bool) (staged : Objects) → IsTrue honest → Came honest bytes reading staged → upload_among staged reading ≡ upload_of bytes
 came_upload bytes reading honest staged is came = ap (upload_among staged) (sym came.read) ∙ upload_again bytes staged (came.exact is)
 
--- and beside what is seen it is what was sent
+-- and together with what is seen it is what was sent
 pub came_beside : (bytes : List ℕ) (reading : Reading) (honest : Bool) (seen staged : Objects) → IsTrue honest → Came honest bytes reading staged → joined seen staged ≡ with_objects seen (sent_in (stream_of bytes))
 came_beside bytes reading honest seen staged is came = beside_sent seen staged (sent_in (stream_of bytes)) (came.exact is)

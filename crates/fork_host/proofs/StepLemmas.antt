@@ -1,4 +1,4 @@
--- A step from state to state, as the calls in it make it, and a run of steps.
+-- A step from state to state, made of the calls in it, and a run of steps.
 use Rattle.std.proofs.Common.{◌≡◌, ◌≢◌, ◌⊎◌, ℕ, false, true, List, [], ◌∷◌, ◌++◌, Some, length, arith, refl, sym, ap, subst, ◌∙◌}
 use Rattle.std.specs.FinMap.{get}
 use Rattle.std.specs.List.{AllByRecursion}
@@ -78,7 +78,7 @@ run_more old mid new (e ∷ events) (r ∷ replies) event reply run step = (run.
 run_more old mid new [] (r ∷ replies) event reply run step = absurd run
 run_more old mid new (e ∷ events) [] event reply run step = absurd run
 
--- two runs, one behind the other, are one
+-- two runs, one after the other, are one
 pub run_joined : (old mid new : HostState) (events more : List Event) (replies others : List Reply) → IsRun old events replies mid → IsRun mid more others new → IsRun old (events ++ more) (replies ++ others) new
 run_joined old mid new [] more [] others run rest = subst (λ s. IsRun s more others new) run rest
 run_joined old mid new [] more (r ∷ replies) others run rest = absurd run
@@ -92,7 +92,7 @@ run_honest old new [] (r ∷ replies) run = absurd run
 run_honest old new (e ∷ events) [] run = absurd run
 run_honest old new (e ∷ events) (r ∷ replies) run = run_honest run.0 new events replies run.2 ∙ run.1.honest
 
--- a host's state leads to a host's state
+-- a whole state leads to a whole state
 pub run_whole : (old new : HostState) (events : List Event) (replies : List Reply) → IsRun old events replies new → IsWhole old → IsWhole new
 run_whole old new [] [] run whole = subst IsWhole (sym run) whole
 run_whole old new [] (r ∷ replies) run whole = absurd run
@@ -106,7 +106,7 @@ run_explained old new [] (r ∷ replies) run trusted = absurd run
 run_explained old new (e ∷ events) [] run trusted = absurd run
 run_explained old new (e ∷ events) (r ∷ replies) run trusted = (world_of run.0, run.1.explained trusted, run_explained run.0 new events replies run.2 (run.1.honest ∙ trusted))
 
--- where nothing was done each view keeps its shape
+-- if nothing was done, each view keeps its shape
 pub run_kept : (old new : HostState) (events : List Event) (replies : List Reply) → IsRun old events replies new → AllByRecursion (λ reply. is_done reply ≡ false) replies → (t : List ℕ) → SameShape t (world_of old) (world_of new)
 run_kept old new [] [] run none t = ap (λ (s : HostState). option_map shape_seen (get (world_of s) t)) run
 run_kept old new [] (r ∷ replies) run none t = absurd run
@@ -120,14 +120,14 @@ run_others old new [] (r ∷ replies) t run none = absurd run
 run_others old new (e ∷ events) [] t run none = absurd run
 run_others old new (e ∷ events) (r ∷ replies) t run none = run_others run.0 new events replies t run.2 none.1 ∙ run.1.others t none.0
 
--- what was told under a name has it
+-- what was answered under a name has that name
 pub run_named : (old new : HostState) (events : List Event) (replies : List Reply) → IsRun old events replies new → AreNamedAt events replies
 run_named old new [] [] run = tt
 run_named old new [] (r ∷ replies) run = absurd run
 run_named old new (e ∷ events) [] run = absurd run
 run_named old new (e ∷ events) (r ∷ replies) run = (run.1.named, run_named run.0 new events replies run.2)
 
--- and a run is two, parted behind any of its steps
+-- and a run is two, split after any of its steps
 pub run_parted : (old new : HostState) (front back : List Event) (told after : List Reply) → IsRun old (front ++ back) (told ++ after) new → length told ≡ length front → (mid : HostState) × IsRun old front told mid × IsRun mid back after new
 run_parted old new [] back [] after run same = (old, refl, run)
 run_parted old new [] back (reply ∷ told) after run same = absurd (omega (arith, same))

@@ -1,4 +1,4 @@
--- What a tenant comes to see of what a giver sees.
+-- What becomes visible to a tenant of what a giver sees.
 use Rattle.std.proofs.Common.{◌≡◌, ◌⊎◌, inl, inr, ℕ, Bool, true, false, cond, List, [], Option, None, Some, refl, sym, ap, subst, ◌∙◌, is_some}
 use Rattle.std.specs.Option.{option_map, option_or, unwrap_or}
 use Rattle.std.specs.FinMap.{contains_key, get, retain_keys}
@@ -33,7 +33,7 @@ abbrev pub copy_in : Ask → List ℕ
 copy_in (ForksOffer giver repository copy) = copy
 copy_in ask = []
 
--- that request looks at what is offered
+-- such a request looks at what is offered
 pub looked_at : (ask : Ask) (giver word copy : List ℕ) → looks_at_offers ask ≡ false → ask ≡ ForksOffer giver word copy → ⊥
 looked_at ask giver word copy unlooked is = (let looks : true ≡ false = sym (ap looks_at_offers is) ∙ unlooked in cc)
 
@@ -44,7 +44,7 @@ taken_none giver old new same name = inl (ap (λ (m : Measures). get m name) sam
 measured : (objects : Objects) (name : List ℕ) → get (measures_of objects) name ≡ option_map measure_of (get objects name)
 measured objects name = get_map_values name_total measure_of objects name
 
--- objects that a giver sees come beside those that were seen
+-- objects that a giver sees are added to those that were seen
 pub taken_beside : (giver seen : Objects) (names : List ℕ → Bool) → IsTakenFrom giver seen (joined seen (retain_keys giver names))
 taken_beside giver seen names name = by (get seen name) refl (names name) refl
   where
@@ -66,13 +66,13 @@ taken_beside giver seen names name = by (get seen name) refl (names name) refl
     by None is false comes =
         inl (measured all name ∙ ap (option_map measure_of) (here ∙ (λ i. option_or (is i) (cond (comes i) (get giver name) None)) ∙ sym is) ∙ sym (measured seen name))
 
--- the same where both saw other objects of the same measures
+-- so it is if both saw other objects of the same measures
 pub taken_alike : (giver seen other saw new : Objects) → measures_of giver ≡ measures_of other → measures_of seen ≡ measures_of saw → IsTakenFrom giver seen new → IsTakenFrom other saw new
 taken_alike giver seen other saw new theirs own taken name =
     subst (λ (m : Measures). (get (measures_of new) name ≡ get m name) ⊎ ((get m name ≡ None) × (get (measures_of new) name ≡ get (measures_of other) name))) own
     (subst (λ (m : Measures). (get (measures_of new) name ≡ get (measures_of seen) name) ⊎ ((get (measures_of seen) name ≡ None) × (get (measures_of new) name ≡ get m name))) theirs (taken name))
 
--- what a tenant of the world sees, be it there or not
+-- what a tenant of the world sees, whether the tenant exists or not
 seen_any : (state : HostState) → ((t : List ℕ) → contains_key state.vault.tenants t ≡ contains_key state.accounts t) → (t : List ℕ) → seen_in_world (world_of state) t ≡ visible_in state.vault t
 seen_any state there t = by (get state.accounts t) refl
   where
@@ -86,7 +86,7 @@ seen_any state there t = by (get state.accounts t) refl
         ap seen_of (get_world state t ∙ ap (option_map (λ a. shown a state.vault t)) none)
         ∙ ap (λ (p : Private). p.visible) (no_private (get state.vault.tenants t) (there t ∙ ap is_some none))
 
--- and so of a world before a step, and of the one behind it
+-- and so for a world before a step and the one after it
 pub taken_shown : (old new : HostState) → ((t : List ℕ) → contains_key old.vault.tenants t ≡ contains_key old.accounts t) → ((t : List ℕ) → contains_key new.vault.tenants t ≡ contains_key new.accounts t)
     → (giver tenant : List ℕ) → IsTakenFrom (visible_in old.vault giver) (visible_in old.vault tenant) (visible_in new.vault tenant)
     → IsTakenFrom (seen_in_world (world_of old) giver) (seen_in_world (world_of old) tenant) (seen_in_world (world_of new) tenant)

@@ -31,7 +31,7 @@ use Rattle.fork_host.proofs.SafeLemmas.{safe_taken}
 pub same_view : (old new : Repositories) (seen objects : Objects) (rest : View) (limit : ℕ) → new ≡ old → objects ≡ seen → view_of rest new objects limit ≡ view_of rest old seen limit
 same_view old new seen objects rest limit repositories is = λ i. view_of rest (repositories i) (is i) limit
 
--- a row over what is seen, as it is told otherwise
+-- a row over what is seen, for equal repositories and objects
 pub yields_from : (repositories now : Repositories) (seen other objects others : Objects) (rest : View) (limit : ℕ) (name : List ℕ) (was : Repository) (held : Finished) (reply : Reply) → seen ≡ other → objects ≡ others
     → Yields (pushed (view_of rest repositories seen limit) name was held) (view_of rest repositories seen limit) reply (view_of rest now objects limit)
     → Yields (pushed (view_of rest repositories other limit) name was held) (view_of rest repositories other limit) reply (view_of rest now others limit)
@@ -39,7 +39,7 @@ yields_from repositories now seen other objects others rest limit name was held 
     subst (λ o. Yields (pushed (view_of rest repositories o limit) name was held) (view_of rest repositories o limit) reply (view_of rest now others limit)) is
     (subst (λ o. Yields (pushed (view_of rest repositories seen limit) name was held) (view_of rest repositories seen limit) reply (view_of rest now o limit)) same yields)
 
--- what is judged over what is seen and staged, and by names, is judged over the sent objects
+-- judging what is seen and staged, by names, is judging the sent objects
 pub judged_by : (seen both : Objects) (sent : List Object) (names : List (List ℕ)) (references : References) (limit : ℕ) (commands : List Command) → names ≡ map object_name sent → both ≡ with_objects seen sent
     → judged (with_objects seen sent) references limit (Ok (commands, map object_name sent)) ≡ judged both references limit (Ok (commands, names))
 judged_by seen both sent names references limit commands named beside =
@@ -67,7 +67,7 @@ pub gives_nothing : (row : Reply × View) (old : Repositories) (seen objects : O
     → reply ≡ Failed fault → objects ≡ seen → Yields row (view_of rest old seen limit) reply (view_of rest old objects limit)
 gives_nothing row old seen objects rest limit fault reply told sees = Faulted fault told (ap plain (same_view old old seen objects rest limit refl sees))
 
--- what is seen stays, where what is staged comes to it
+-- what is seen stays when what is staged is added to it
 first_counts : (there other : Option Object) → is_some there ≡ true → option_or there other ≡ there
 first_counts None other is = absurd (cc)
 first_counts (Some object) other is = refl
@@ -82,10 +82,10 @@ taken_safe Within first before after own old new rest limit name was references 
     (λ q there. get_joined name_total (visible_in first own) (staged_in first own) q ∙ first_counts (get (visible_in first own) q) (get (staged_in first own) q) there) within done.told here done.set
     (ap measures_of done.seen ∙ same_both (private_of before.tenants own) (private_of first.tenants own) (same_measures first.tenants before.tenants own shape)) accepted
 
--- it is answered with no host fault
+-- the answer is no host fault
 pub quiet_taken : (before after : VaultState) (own : List ℕ) (set new : Repositories) (reply : Reply) → IsTaken own set before reply new after → IsQuiet reply
 quiet_taken before after own set new reply done = inl (ap is_host_fault done.told)
 
--- and always done
+-- and is always `ok`
 pub staged_taken : (before after : VaultState) (own : List ℕ) (set new : Repositories) (reply : Reply) → is_done reply ≡ false → IsTaken own set before reply new after → KeepsStaged own before after
 staged_taken before after own set new reply not_done done = (let differs : ⊥ = cc (sym not_done ∙ ap is_done done.told) in absurd differs)

@@ -23,7 +23,7 @@ references_parted : (xs ys : List Repository) → flat_map references_in (xs ++ 
 references_parted [] ys = refl
 references_parted (x ∷ xs) ys = ap (λ rest. references_in x ++ rest) (references_parted xs ys) ∙ sym (append_assoc (references_in x) (flat_map references_in xs) (flat_map references_in ys))
 
--- the first of both is the first of these, or else of the others
+-- the first bad reference of two lists is that of the first list, or else of the second
 pub found_first : (bad : Reference → Bool) (xs ys : List Repository) (told : Option (List ℕ)) → told ≡ option_map target_of (find bad (flat_map references_in xs)) → is_some told ≡ true → told ≡ option_map target_of (find bad (flat_map references_in (xs ++ ys)))
 found_first bad xs ys told tells there =
     tells ∙ ap (option_map target_of) (sym (first_some (find bad (flat_map references_in xs)) (find bad (flat_map references_in ys)) (ap is_some (sym tells) ∙ there)) ∙ sym (find-append bad (flat_map references_in xs) (flat_map references_in ys))
@@ -35,10 +35,10 @@ found_second bad xs ys first told none absent tells =
     tells ∙ ap (option_map target_of) (sym (first_none (find bad (flat_map references_in xs)) (find bad (flat_map references_in ys)) (ap is_some (sym none) ∙ absent)) ∙ sym (find-append bad (flat_map references_in xs) (flat_map references_in ys))
     ∙ ap (find bad) (sym (references_parted xs ys)))
 
--- of rows that have a repository each
+-- for rows that have a repository each
 module _ {A : Type 0} (of : A → Repository) (bad : Reference → Bool) (rows : List A) (i : ℕ) (row : A) (told : Option (List ℕ)) (lt : i < length rows) (is : row ≡ get_or rows i row) (tells : told ≡ option_map target_of (find bad (references_in (of row))))
     (so_far : find bad (flat_map references_in (map of (drop i rows))) ≡ find bad (flat_map references_in (map of rows))) where
-  -- the first of those that are left stands in the next repository, or behind it
+  -- the first bad reference of those left is in the next repository, or after it
   parted : find bad (flat_map references_in (map of (drop i rows))) ≡ option_or (find bad (references_in (of row))) (find bad (flat_map references_in (map of (drop (i + 1) rows))))
   parted =
       ap (λ rs. find bad (flat_map references_in (map of rs))) (drop_more rows i row lt ∙ ap (λ r. r ∷ drop (i + 1) rows) (sym is))

@@ -32,7 +32,7 @@ use Rattle.fork_host.proofs.WorldLemmas.{get_world, known_world, len_world}
 
 -- ---- the vault
 
--- a request that was refused memory did nothing
+-- a request that got no memory did nothing
 pub tends_none : (request : HostRequest) (vault : VaultState) → IsTended request vault (Failed Memory) vault → Tends request vault (Failed Memory) vault
 tends_none request vault tended = record { tended = tended; honest = refl; kept = λ h. refl; stays = λ h name held. refl; sharp = λ h is done. absurd (cc); sound = λ h is done. absurd (cc) }
 
@@ -48,7 +48,7 @@ fault_none ledger.Memory undamaged apart = record { undamaged = λ is. cc; apart
 fault_none ledger.Damaged undamaged apart = absurd (undamaged refl)
 fault_none ledger.Collision undamaged apart = absurd (apart refl)
 
--- the bounds where names left, and where a fault came between
+-- the bounds if names left, and if a fault came in between
 pub bounded_swept : (a b : VaultState) (text : List ℕ) → AsksStore a b None → (IsTrue a.honest → TakesAway a.files b.files) → IsBounded [] a b (Done text)
 bounded_swept a b text asked away = record {
   honest = asked.honest;

@@ -1,4 +1,4 @@
--- States stay whole: when tenants are added, and when one is answered.
+-- States stay whole when tenants are added, and when one is answered.
 use Rattle.std.proofs.Common.{◌≡◌, ◌≢◌, inl, inr, ℕ, ◌+◌, ◌<◌, ◌≤◌, Bool, true, false, cond, List, Option, None, Some, refl, sym, ap, subst, ◌∙◌, is_some}
 use Rattle.std.specs.Option.{option_map, unwrap_or}
 use Rattle.std.specs.Cmp.{eq_by_cmp_equiv}
@@ -54,7 +54,7 @@ use Rattle.fork_host.proofs.StagedLemmas.{staged_still}
 some_same : {X : Type 0} (x y : X) → Some x ≡ Some y → x ≡ y
 some_same x y is = cc
 
--- no accounts show no tenants
+-- without accounts the world has no tenants
 pub world_none : (accounts : Accounts) (vault : VaultState) → accounts ≡ empty → world_of (state_of accounts vault) ≡ empty
 world_none accounts vault none =
     same_map name_total name_exact _ _ (λ q. get_world (state_of accounts vault) q
@@ -81,7 +81,7 @@ absent_nothing vault t absent = by (get vault.tenants t) absent
     by None is = refl
     by (Some own) is = absurd (cc)
 
--- a world with one tenant more
+-- a world with one more tenant
 pub world_more : (old new : HostState) (t : List ℕ) (limit : ℕ) → IsWhole old → contains_key old.accounts t ≡ false → new.accounts ≡ insert old.accounts t (new_account limit)
     → new.vault.tenants ≡ with_tenant old.vault.tenants t → world_of new ≡ insert (world_of old) t (new_view limit)
 world_more old new t limit whole absent added placed =
@@ -116,11 +116,11 @@ whole_more old new t limit of_tenant whole absent few low added placed honest = 
         ap (λ m. contains_key m q) placed ∙ there_others old.vault.tenants t q (differs q apart) ∙ whole.there q
         ∙ sym (ap (λ m. contains_key m q) added ∙ ap is_some (get-insert name_total old.accounts t (new_account limit) q) ∙ ap (λ b. is_some (cond b (Some (new_account limit)) (get old.accounts q))) apart)
 
--- where neither the accounts nor the vault changes, the state is the same
+-- if neither the accounts nor the vault change, the state is the same
 pub same_state : (accounts after : Accounts) (old new : VaultState) → after ≡ accounts → new.tenants ≡ old.tenants → LeavesStore old new → state_of after new ≡ state_of accounts old
-same_state accounts after old new same placed leaves = λ i. state_of (same i) (record { tenants = placed i; files = leaves.files i; honest = leaves.honest i; failures = leaves.failures i; places = leaves.places i; commits = leaves.commits i })
+same_state accounts after old new same placed leaves = λ i. state_of (same i) (record { tenants = placed i; files = leaves.files i; honest = leaves.honest i; failures = leaves.failures i; places = leaves.places i })
 
--- a tenant that is there is ready
+-- an existing tenant is ready
 pub ready : (state : HostState) (t : List ℕ) (account : Account) → IsWhole state → get state.accounts t ≡ Some account → IsReady state.vault t account.limit
 ready state t account whole here =
     let view_is = get_world state t ∙ ap (option_map (λ a. shown a state.vault t)) here in
@@ -129,7 +129,7 @@ ready state t account whole here =
       within = (whole.orderly.views t (shown account state.vault t) view_is).within_limit;
     }
 
--- it is answered from its account, its own part of the vault, and what is offered to it; the first two alone change
+-- it is answered from its account, its own part of the vault, and what is offered to it; only the first two change
 pub answered_step : (old new : HostState) (t : List ℕ) (ask : Ask) (account after : Account) (reply : Reply) → IsSoundWorld (world_of old) → IsAlike (world_of old) → get old.accounts t ≡ Some account → new.accounts ≡ insert old.accounts t after
     → Yields (answer (met_by (world_of old) t) (shown account old.vault t) ask) (shown account old.vault t) reply (shown after new.vault t) → IsOwn t old.vault new.vault → Trusted old → Steps (world_of old) (Asks t ask) reply (world_of new)
 answered_step old new t ask account after reply sound alike here set gives own trusted =
@@ -155,7 +155,7 @@ at_own old new t q after set tied =
 pub at_other : (old new : HostState) (t q : List ℕ) (after : Account) → new.accounts ≡ insert old.accounts t after → eq_by_cmp name_cmp q t ≡ false → get new.accounts q ≡ get old.accounts q
 at_other old new t q after set apart = account_set old new t q after set ∙ ap (λ b. cond b (Some after) (get old.accounts q)) apart
 
--- the tenants are those that were there
+-- the tenants are those that existed before
 pub known_still : (old new : HostState) (t q : List ℕ) (account after : Account) → get old.accounts t ≡ Some account → new.accounts ≡ insert old.accounts t after → contains_key new.accounts q ≡ contains_key old.accounts q
 known_still old new t q account after here set = ap is_some (account_set old new t q after set) ∙ by (eq_by_cmp name_cmp q t) refl
   where
@@ -167,7 +167,7 @@ as_many : (old new : HostState) (t : List ℕ) (account after : Account) → get
 as_many old new t account after here set =
     len_world new ∙ ap len set ∙ len-insert name_total old.accounts t after ∙ ap (λ b. cond b (len old.accounts) (len old.accounts + 1)) (ap is_some here) ∙ sym (len_world old)
 
--- what a tenant sees of another has its measures still
+-- what another tenant sees keeps its measures
 seen_still : (old new : HostState) (t q : List ℕ) → IsOwn t old.vault new.vault → eq_by_cmp name_cmp q t ≡ false → measures_of (visible_in new.vault q) ≡ measures_of (visible_in old.vault q)
 seen_still old new t q own apart = ap (λ (p : Measures × Measures). p.0) (own.shape q (λ same. distinct t q same apart))
 
@@ -179,11 +179,11 @@ orderly_still old new t q (Some a) view same is each =
     (orderly_measured a.repositories (visible_in old.vault q) (visible_in new.vault q) (shown a old.vault q) (shown a new.vault q) a.limit same (alike_shown a (private_of old.vault.tenants q) (private_of new.vault.tenants q))
     (each (shown a old.vault q) refl))
 
--- of whom offers are made stays too, where the offers do
+-- no offer is to the giver itself, if that was so and the offers stay
 others_alike : (t : List ℕ) (old new : View) → ((pair : Pair) → contains_key new.made pair ≡ true → contains_key old.made pair ≡ true) → AreToOthers t old → AreToOthers t new
 others_alike t old new made others pair offer is = (let was = found (get old.made pair) (made pair (ap is_some is)) in others pair was.0 was.1)
 
--- and of an account that has made the same offers
+-- for an account that has made the same offers
 pub others_made : (t : List ℕ) (account after : Account) (own now : Private) → after.made ≡ account.made → AreToOthers t (seen_by account own) → AreToOthers t (seen_by after now)
 others_made t account after own now same others =
     let before = made_shown own.visible account.made in
@@ -191,7 +191,7 @@ others_made t account after own now same others =
     others_alike t (seen_by account own) (seen_by after now)
     (λ pair there. sym (still_made before behind pair (made_again now.visible after.made ∙ same ∙ sym (made_again own.visible account.made))) ∙ there) others
 
--- and where an answer of the model makes them
+-- and for the offers that an answer of the model makes
 pub others_gives : (t : List ℕ) (view new : View) (ask : Ask) (reply : Reply) → Gives (answer (nothing_offered t) view ask) view reply new → AreToOthers t view → AreToOthers t new
 others_gives t view new ask reply (Given told is) others = subst (AreToOthers t) (sym is) (to_others_answer (nothing_offered t) view others ask)
 others_gives t view new ask reply (Wanting wanting stays) others = subst (AreToOthers t) (sym stays) others
@@ -204,7 +204,7 @@ others_still old new t q (Some a) view is each =
     subst (AreToOthers t) (some_same after view is)
     (others_alike t before after (λ pair there. sym (still_made before.made after.made pair (same_made a.made (visible_in old.vault q) (visible_in new.vault q))) ∙ there) (each before refl))
 
--- the world stays in order where the tenant's view does
+-- the world stays in order if the tenant's view does
 pub orderly_after : (old new : HostState) (t : List ℕ) (account after : Account) → IsOrderlyWorld (world_of old) → get old.accounts t ≡ Some account → new.accounts ≡ insert old.accounts t after → IsOwn t old.vault new.vault
     → (IsOrderly (shown account old.vault t) → IsOrderly (shown after new.vault t)) → (AreToOthers t (shown account old.vault t) → AreToOthers t (shown after new.vault t)) → IsOrderlyWorld (world_of new)
 orderly_after old new t account after orderly here set own still others = record {
@@ -253,7 +253,7 @@ others_stay old new t after set own q differs = by (eq_by_cmp name_cmp q t) refl
     by true tied = absurd (differs (tied_names q t tied))
     by false apart = others_shape old new t q after set own apart
 
--- and so does that of the tenant, where its view's does
+-- and so does the tenant's, if its view's shape does
 pub all_stay : (old new : HostState) (t : List ℕ) (account after : Account) → get old.accounts t ≡ Some account → new.accounts ≡ insert old.accounts t after → IsOwn t old.vault new.vault
     → view_shape (shown after new.vault t) ≡ view_shape (shown account old.vault t) → (q : List ℕ) → SameShape q (world_of old) (world_of new)
 all_stay old new t account after here set own same q = by (eq_by_cmp name_cmp q t) refl
@@ -264,7 +264,7 @@ all_stay old new t account after here set own same q = by (eq_by_cmp name_cmp q 
         ∙ ap (option_map view_shape) (sym (ap (get (world_of old)) (tied_names q t tied) ∙ get_world old t ∙ ap (option_map (λ a. shown a old.vault t)) here))
     by false apart = others_shape old new t q after set own apart
 
--- and so do its offers, where its account's do
+-- and so do its offers, if its account's do
 pub offers_stay : (old new : HostState) (t : List ℕ) (account after : Account) → get old.accounts t ≡ Some account → new.accounts ≡ insert old.accounts t after → IsOwn t old.vault new.vault
     → after.made ≡ account.made → (q : List ℕ) → SameOffers q (world_of old) (world_of new)
 offers_stay old new t account after here set own same q = by (eq_by_cmp name_cmp q t) refl
@@ -275,7 +275,7 @@ offers_stay old new t account after here set own same q = by (eq_by_cmp name_cmp
         ∙ ap (option_map repositories_offered) (sym (ap (get (world_of old)) (tied_names q t tied) ∙ get_world old t ∙ ap (option_map (λ a. shown a old.vault t)) here))
     by false apart = same_offers (get (world_of new) q) (get (world_of old) q) (others_shape old new t q after set own apart)
 
--- a repository comes to the tenant's view, where it comes to its account
+-- a repository is added to the tenant's view if it is added to its account
 pub forked_shown : (old new : HostState) (t giver word copy : List ℕ) (account after : Account) → get old.accounts t ≡ Some account → new.accounts ≡ insert old.accounts t after
     → HasForked (met_by (world_of old) t) giver word copy account after → ForksOffered (world_of old) (world_of new) t giver word copy
 forked_shown old new t giver word copy account after here set forked = record {
@@ -286,7 +286,7 @@ forked_shown old new t giver word copy account after here set forked = record {
       ∙ ap (option_map (λ (view : View). insert view.repositories copy forked.offer.repository)) (sym (get_world old t ∙ ap (option_map (λ a. shown a old.vault t)) here));
 }
 
--- what each tenant has staged is what came of its upload, where it is so of this one
+-- each tenant has staged what was received of its upload, if this one has
 pub staged_after : (old new : HostState) (t : List ℕ) (after : Account) → new.accounts ≡ insert old.accounts t after → IsOwn t old.vault new.vault
     → ((q : List ℕ) (other : Account) → get old.accounts q ≡ Some other → IsStaged old.vault.honest other.upload (staged_in old.vault q)) → IsStaged old.vault.honest after.upload (staged_in new.vault t)
     → (q : List ℕ) (other : Account) → get new.accounts q ≡ Some other → IsStaged new.vault.honest other.upload (staged_in new.vault q)
@@ -311,14 +311,14 @@ whole_after Within old new t ask account after reply whole here set alike step s
   staged = staged_after old new t after set own (λ q other is. whole.staged q other is) came;
 }
 
--- what a tenant that is there sends
+-- what an existing tenant sees
 pub seen_here : (state : HostState) (t : List ℕ) (account : Account) → get state.accounts t ≡ Some account → seen_in_world (world_of state) t ≡ visible_in state.vault t
 seen_here state t account here = ap seen_of (get_world state t ∙ ap (option_map (λ a. shown a state.vault t)) here)
 
 pub sent_here : (state : HostState) (t : List ℕ) (ask : Ask) (account : Account) → get state.accounts t ≡ Some account → sent_in_world (world_of state) t ask ≡ sent_by (shown account state.vault t) ask
 sent_here state t ask account here = ap (λ o. brought_by o ask) (get_world state t ∙ ap (option_map (λ a. shown a state.vault t)) here)
 
--- what tenants hold under one name is one object, so a world has one object a name
+-- tenants hold one object under one name, so each name has only one object in the world
 pub alike_of : (state : HostState) → HoldOne state.vault.tenants → IsAlike (world_of state)
 alike_of state one tenant other name view another object same here there is held =
     let seen = seen_in_vault state tenant view here name object is in

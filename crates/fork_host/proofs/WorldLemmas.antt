@@ -16,7 +16,7 @@ use Rattle.fork_host.specs.Shown.{Account, HostState, entry_shown, seen_by, show
 abbrev Rows : Type 0
 Rows = List (List ℕ × Account)
 
--- views stand under the names of their accounts, in the same order
+-- views are under the names of their accounts, in the same order
 same_below : (vault : VaultState) (k : List ℕ) (es : Rows) → below_all name_cmp k (map (entry_shown vault) es) ≡ below_all name_cmp k es
 same_below vault k [] = refl
 same_below vault k (e ∷ es) = ap (λ b. is_lt (name_cmp k e.0) && b) (same_below vault k es)
@@ -68,7 +68,7 @@ known_world state t = ap is_some (get_world state t) ∙ by (get state.accounts 
 pub distinct : (t q : List ℕ) → q ≡ t → eq_by_cmp name_cmp q t ≡ false → ⊥
 distinct t q same apart = cc (sym apart ∙ (ap (λ n. eq_by_cmp name_cmp n t) same ∙ (eq_by_cmp_equiv name_total).refl t))
 
--- one account is set, and of the vault one tenant's part alone changes
+-- one account is set, and only one tenant's part of the vault changes
 pub world_set : (old new : HostState) (t : List ℕ) (account : Account) → new.accounts ≡ insert old.accounts t account
     → ((q : List ℕ) → q ≢ t → private_of new.vault.tenants q ≡ private_of old.vault.tenants q) → world_of new ≡ insert (world_of old) t (shown account new.vault t)
 world_set old new t account set others =

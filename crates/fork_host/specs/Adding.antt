@@ -21,6 +21,6 @@ refusal_to_add world name limit =
 abbrev pub new_account : ℕ → Account
 new_account limit = record { repositories = empty; made = empty; upload = None; limit = limit }
 
--- nothing, under this limit
+-- a view that has nothing, under this limit
 abbrev pub new_view : ℕ → View
 new_view limit = record { repositories = empty; made = empty; objects = empty; upload = None; limit = limit }

@@ -24,7 +24,7 @@ made_shown objects made = map_values (offered objects) made
 abbrev pub made_of : Offers → Made
 made_of offers = map_values (λ (offer : Shown). offer.repository) offers
 
--- where the references of these repositories point
+-- the targets of the references of these repositories
 abbrev pub targets_kept : Made → List (List ℕ)
 targets_kept made = flat_map (λ (repository : Repository). values repository.references) (values made)
 

@@ -12,7 +12,7 @@ use Rattle.fork_host.specs.declared.meeting.Met.{Met}
 use Rattle.fork_host.specs.declared.meeting.Met.TheVariants.{Nothing, Rows, Offer}
 use Rattle.fork_host.specs.Own.{visible_in}
 
--- this giver offers a repository as it is kept: what its references reach among what the giver sees; they hold over that
+-- this giver offers a repository as it is kept, with what its references reach among what the giver sees; they are valid over that
 pub record MeetsOffer (vault : VaultState) (context : Context) (giver word who : List ℕ) (repository : Repository) : Type 0 where
   pub named : who ≡ giver
   pub stands : get context.offered (giver, word) ≡ Some (offered (visible_in vault giver) repository)

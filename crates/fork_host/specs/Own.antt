@@ -22,18 +22,18 @@ pub record IsReady (vault : VaultState) (tenant : List ℕ) (limit : ℕ) : Type
   pub there : contains_key vault.tenants tenant ≡ true
   pub within : use_of (visible_in vault tenant) ≤ limit
 
--- a tenant's part was used: every other tenant has what it had, and over any store what no store can change of it
+-- a tenant's part was used: every other tenant has what it had; over any store, at least what no store can change of it
 pub record IsOwn (tenant : List ℕ) (old new : VaultState) : Type 0 where
   pub there : (other : List ℕ) → contains_key new.tenants other ≡ contains_key old.tenants other
   pub shape : (other : List ℕ) → other ≢ tenant → private_measures (private_of new.tenants other) ≡ private_measures (private_of old.tenants other)
   pub others : IsTrue old.honest → (other : List ℕ) → other ≢ tenant → private_of new.tenants other ≡ private_of old.tenants other
   pub honest : new.honest ≡ old.honest
 
--- what the tenant has staged is as it was, and over any store what no store can change of it
+-- what the tenant has staged is as it was; over any store, at least what no store can change of it
 abbrev pub KeepsStaged : List ℕ → VaultState → VaultState → Type 0
 KeepsStaged tenant old new = Becomes measures_of old.honest (staged_in old tenant) (staged_in new tenant)
 
--- the tenant sees what it saw, and over any store what no store can change of it
+-- the tenant sees what it saw; over any store, at least what no store can change of it
 abbrev pub KeepsSeen : List ℕ → VaultState → VaultState → Type 0
 KeepsSeen tenant old new = Becomes measures_of old.honest (visible_in old tenant) (visible_in new tenant)
 

@@ -15,7 +15,7 @@ pub record IsRead (honest : Bool) (files : Files) (name : List ℕ) (reading : R
   pub is : reading ≡ object_reading object
   pub whole : IsTrue honest → Whole files name object
 
--- the same for each that is kept
+-- this holds for each reading that is kept
 abbrev pub EachRead : Bool → Files → ReadingMap → Type 0
 EachRead honest files readings = (name : List ℕ) (reading : ReadingValue) → get readings name ≡ Some reading → IsRead honest files name reading
 

@@ -88,7 +88,7 @@ abbrev pub IsJudged : Files → TenantState → World → World → Result (Unit
 IsJudged files tenant old new (Ok done) = IsRefilledIn files tenant old new
 IsJudged files tenant old new (Err against) = StandsAgainst files tenant against
 
--- if it was checked, the tenant exists, after the others
+-- unless memory ran out, the tenant was added after the others
 abbrev pub IsBehind : List ℕ → List (List ℕ) → List (List ℕ) → Result (Unit {0}) Against → Type 0
 IsBehind name old new (Ok done) = new ≡ old ++ name ∷ []
 IsBehind name old new (Err NoMemory) = Unit {0}
@@ -129,7 +129,7 @@ first_told Nothing = None
 first_told (LaterTarget target) = Some (Unsound target)
 first_told (LaterLimit tenant) = Some (OverLimit tenant)
 
--- how what is reported at once is reported
+-- the error that reports this at once
 abbrev pub IsWhy : Files → Bad → RestoreError → Type 0
 IsWhy files BadMemory told = told ≡ WantsMemory
 IsWhy files (Object_of name) told = TellsBad files name told

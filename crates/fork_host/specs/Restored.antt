@@ -52,7 +52,7 @@ pub record AreOnStore (files : Files) (names : List (List ℕ)) (objects : Objec
   pub whole : (name : List ℕ) (object : Object) → get objects name ≡ Some object → Whole files name object
   pub all : (name : List ℕ) (object : Object) → Contains names name → Whole files name object → get objects name ≡ Some object
 
--- the same holds for the objects of these names that are whole on the store
+-- this holds of the objects of these names that are whole on the store
 pub record OnStore (files : Files) (names : List (List ℕ)) (Is : Objects → Type 0) : Type 0 where
   pub objects : Objects
   pub stored : AreOnStore files names objects
@@ -70,7 +70,7 @@ HasTargets files tenant = OnStore files tenant.seen (λ objects. first_astray (r
 abbrev pub KeepsLimit : Files → TenantState → Type 0
 KeepsLimit files tenant = OnStore files tenant.seen (λ objects. use_of objects ≤ tenant.limit)
 
--- the tenant is one of these, and the same holds for each before it
+-- the tenant is one of these, and this holds for each before it
 pub record AllBefore (Is : TenantState → Type 0) (states : States) (tenant : TenantState) : Type 0 where
   pub front : States
   pub back : States

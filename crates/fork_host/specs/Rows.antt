@@ -26,7 +26,7 @@ pub data Gives (row : Reply × View) (old : View) (reply : Reply) (new : View) :
 abbrev pub plain : View → View × Made
 plain view = (record view { made = empty }, made_of view.made)
 
--- the same for a row that asks the store, without the objects of offers
+-- the result of a row that asks the store, without the objects of offers
 pub data Yields (row : Reply × View) (old : View) (reply : Reply) (new : View) : Type 0 where
   -- the row's reply and view
   Yielded : reply ≡ row.0 → plain new ≡ plain row.1 → Yields row old reply new

@@ -19,16 +19,16 @@ abbrev pub IsNamedAt : Event → Reply → Type 0
 IsNamedAt (Asks tenant ask) reply = IsNamedReply ask reply
 IsNamedAt (HostAsks request) reply = ⊤
 
--- merge bases are names of what the tenant sees, and replies about the host itself are as the world has it
+-- merge bases are names of what the tenant sees, and replies about the host itself agree with the world
 abbrev pub TellsSeenAt : World → Event → Reply → Type 0
 TellsSeenAt world (Asks tenant ask) reply = TellsSeen (seen_in_world world tenant) ask reply
 TellsSeenAt world (HostAsks request) reply = HostSays world request reply ⊎ (is_host_fault reply ≡ true)
 
 -- a step from state to state. Over an honest store it is a step of the world. Over any store the honesty stays, and the new state
 -- is a host's. What is refused or failed keeps each view's shape, and a step that a tenant does not ask keeps that tenant's. Only
--- `offer` and `withdraw` change of which repositories offers are. `fork-offer` returns a repository that is offered, and what
+-- `offer` and `withdraw` change which repositories are offered. `fork-offer` gives a repository that is offered, and what
 -- becomes visible by it is of what the giver sees. What is answered under a name has that name, merge bases are names of what the
--- tenant sees, and replies about the host itself are as the world has it. The host faults, and what is done with the store, keep
+-- tenant sees, and replies about the host itself agree with the world. The host faults, and what is done with the store, keep
 -- their bounds
 pub record IsStep (old : HostState) (event : Event) (reply : Reply) (new : HostState) : Type 0 where
   pub explained : Trusted old → Steps (world_of old) event reply (world_of new)
@@ -53,7 +53,7 @@ IsRun old (event ∷ events) (reply ∷ replies) new = (mid : HostState) × IsSt
 IsRun old [] (reply ∷ replies) new = ⊥
 IsRun old (event ∷ events) [] new = ⊥
 
--- the same for each reply
+-- what each reply gives a tenant under a name has that name
 abbrev pub AreNamedAt : List Event → List Reply → Type 0
 AreNamedAt (event ∷ events) (reply ∷ replies) = IsNamedAt event reply × AreNamedAt events replies
 AreNamedAt [] replies = ⊤

@@ -22,11 +22,11 @@ use Rattle.fork_ledger.specs.Tenants.{VaultState}
 use Rattle.fork_host.specs.Sent.{sent_in_world, sent_names}
 use Rattle.fork_host.specs.Shown.{HostState, world_of}
 
--- the store has files exactly for the names of which some tenant has an object
+-- the store has files exactly for the names under which some tenant has an object
 abbrev pub IsSharp : VaultState → Type 0
 IsSharp vault = (name : List ℕ) → contains_key vault.files name ≡ is_taken vault.tenants name
 
--- the files of names of which some tenant has an object are as they were
+-- the files of names under which some tenant has an object are as they were
 abbrev pub KeepsTaken : VaultState → VaultState → Type 0
 KeepsTaken old new = (name : List ℕ) → is_taken old.tenants name ≡ true → get new.files name ≡ get old.files name
 
@@ -91,7 +91,7 @@ pub record Tends (request : HostRequest) (old : VaultState) (reply : Reply) (new
   pub sharp : IsTrue old.honest → request ≡ Collect → is_done reply ≡ true → IsSharp new
   pub sound : IsTrue old.honest → request ≡ Fsck → is_done reply ≡ true → reply ≡ Done []
 
--- the same for a step; a tenant's leaves the catalogue's place, and adds only names of what is sent to the catalogue
+-- what a step does: a tenant's leaves the place of the next look, and adds to the catalogue only names of what is sent
 abbrev pub TendsAt : HostState → Event → Reply → HostState → Type 0
 TendsAt old (Asks tenant ask) reply new = GrowsAmong (sent_names (sent_in_world (world_of old) tenant ask)) old.vault.places new.vault.places
 TendsAt old (HostAsks request) reply new = Tends request old.vault reply new.vault
@@ -105,6 +105,6 @@ abbrev pub AreDone : List Reply → Type 0
 AreDone replies = AllByRecursion (λ reply. is_done reply ≡ true) replies
 
 -- after sweeps alone that were answered, and that add up to at least twice the number of names that were catalogued, the store has
--- files exactly for the names of which some tenant has an object
+-- files exactly for the names under which some tenant has an object
 abbrev pub SharpAfterSweeps : VaultState → List Event → List Reply → VaultState → Type 0
 SharpAfterSweeps old events replies new = (slices : List ℕ) → events ≡ sweeps slices → AreDone replies → 2 * length old.places.names ≤ sum slices → IsSharp new

@@ -144,7 +144,7 @@ impl Accounts {
         Ok(states)
     }
 
-    // What each tenant has and may have, in numbers: one line each.
+    // A line for each tenant, in numbers: what it has and may have.
     pub(crate) fn figures<S: LooseFiles>(
         &self,
         alloc: Global,
@@ -264,7 +264,7 @@ impl Accounts {
         Ok(rows)
     }
 
-    // The offer of this giver to this receiver of the repository that a word names, as a copy.
+    // A copy of the offer that this giver made to this receiver, of the repository that a word names.
     fn offer_from<S: LooseFiles>(
         &self,
         vault: &Vault<S>,
@@ -354,7 +354,7 @@ fn looks_at_offers(request: Request<'_>) -> bool
     }
 }
 
-// The same as `answer_met`, for a request that depends on offers.
+// As `answer_met`, for a request that depends on offers.
 fn look<S: LooseFiles>(
     alloc: Global,
     tenant: &mut Tenant,
@@ -388,7 +388,7 @@ fn look<S: LooseFiles>(
     }
 }
 
-// The offers to the tenant, which are passed in, then those that it has made.
+// Lists the offers to the tenant, which are passed in, then those that it has made.
 fn list_offers(tenant: &Tenant, met: Met) -> Reply
     ensures { (vault : VaultState) (context : Context) (own : Private) → IsMet vault context AsksOffers met → Gives (offers_answer context (seen_by tenant.now own)) (seen_by tenant.now own) result (seen_by tenant.now own) }
 {

@@ -3,7 +3,7 @@ use thiserror::Error;
 /// Why a tenant was not added.
 #[derive(Clone, Copy, Debug, PartialEq, Eq, Error)]
 pub enum AddError {
-    #[error("the tenant is there already")]
+    #[error("the tenant exists already")]
     There,
     #[error("there are 64 tenants already")]
     TooMany,

@@ -81,7 +81,7 @@ pub(crate) fn fork_offer<S: LooseFiles>(
     }
 }
 
-// The same, if the offer exists and the new repository has a valid name.
+// Forks an offer that exists, into a new repository with a valid name.
 fn take_offer<S: LooseFiles>(
     alloc: Global,
     tenant: &mut Tenant,

@@ -24,9 +24,10 @@ ghost use Rattle.fork_host.specs.Swept.{SharpAfterSweeps};
 use crate::accounts::Accounts;
 use crate::add_error::AddError;
 use crate::open_error::OpenError;
+use crate::reading::survey_of;
 use crate::step::HostStep;
 use crate::tending::tend;
-use fork_ledger::{Survey, Vault, VaultFault, sharp_slices};
+use fork_ledger::{Survey, Vault, sharp_slices};
 use fork_model::{MAX_TENANTS, a_run_is_private, what_runs_show_was_seen_or_sent};
 use fork_request::{HostFault, HostRequest, MAX_LIMIT, Reply, Request, TenantName};
 use loose_store::{FileFault, LooseFiles};
@@ -66,25 +67,19 @@ impl<S: LooseFiles + Drop> Host<S> {
         ensures trusted { IfOk result (λ host. IsTrue (S.honest files) → Trusted host) }
         ensures store { IfOk result (λ host. IsOver (S.contents files) (S.honest files) (S.failures files) host.vault) }
     {
-        let Ok(survey) = Survey::new(alloc, files) else {
-            return Err(OpenError::Memory);
-        };
-        Host::over(alloc, survey)
+        let survey = survey_of(alloc, files)?;
+        Ok(Host::over(alloc, survey))
     }
 
-    // The same, over the store of a survey.
-    pub(crate) fn over(alloc: Global, survey: Survey<S>) -> Result<Host<S>, OpenError>
-        ensures empty { IfOk result (λ host. world_of host ≡ map.empty) }
-        ensures trusted { IfOk result (λ host. IsTrue survey.honest → Trusted host) }
-        ensures store { IfOk result (λ host. IsOver survey.contents survey.honest survey.failures host.vault) }
+    // A host without tenants, over the store of a survey.
+    pub(crate) fn over(alloc: Global, survey: Survey<S>) -> Host<S>
+        ensures empty { world_of result ≡ map.empty }
+        ensures trusted { IsTrue survey.honest → Trusted result }
+        ensures store { IsOver survey.contents survey.honest survey.failures result.vault }
     {
-        match Vault::over(alloc, survey) {
-            Ok(vault) => Ok(Host {
-                accounts: Accounts::new(alloc),
-                vault,
-            }),
-            Err(VaultFault::Memory) => Err(OpenError::Memory),
-            Err(_) => Err(OpenError::Store),
+        Host {
+            accounts: Accounts::new(alloc),
+            vault: Vault::over(survey),
         }
     }
 }
@@ -120,8 +115,8 @@ impl<S: LooseFiles> Host<S> {
         self.vault.census()
     }
 
-    /// What of the host outlives its process: the limit of each tenant, its repositories, the names of the
-    /// objects that it sees, and its offers. Open uploads are not in it.
+    /// What outlives the host's process: the limit of each tenant, its repositories, the names of the objects that it
+    /// sees, and its offers. Open uploads are not in it.
     pub fn states(&self, alloc: Global) -> Result<States, NoMemory>
         ensures { IfOk result (λ states. states ≡ states_of (world_of self.now)) }
     {
@@ -158,28 +153,28 @@ impl<S: LooseFiles> Host<S> {
         self.accounts.upload(alloc, &mut self.vault, name)
     }
 
-    /// Makes the file of each object that came survive a loss of power. It is called before a state that names the
-    /// objects is saved. After a failure it always fails.
+    /// Makes the file of each object that came survive a loss of power. Call it before saving a state that names the
+    /// objects. After `Device` every later call fails too.
     pub fn sync(&mut self, alloc: Global) -> Result<(), FileFault>
         ensures { self.new ≡ self.old }
     {
         self.vault.sync(alloc)
     }
 
-    /// Does some of the work of the next `sync`, if that has much to do. It is called between requests.
+    /// Does some of the work of the next `sync`, if there is much. Call it between requests.
     pub fn sync_ahead(&mut self, alloc: Global) -> Result<(), FileFault>
         ensures { self.new ≡ self.old }
     {
         self.vault.sync_ahead(alloc)
     }
 
-    /// Whether a file that a sweep removed would be back if the store were opened again.
+    /// Whether a file that a sweep removed would come back if the store were opened again.
     pub fn has_removed(&self) -> bool {
         self.vault.has_removed()
     }
 
-    /// Makes the removals of sweeps final. It is called after a state that names none of the removed objects was
-    /// saved. After an `Err` some of the removed files may still come back.
+    /// Makes the removals of sweeps final. Call it after saving a state that names none of the removed objects. After
+    /// an `Err` some of the removed files may still come back.
     pub fn forget_removed(&mut self, alloc: Global) -> Result<(), FileFault>
         ensures { self.new ≡ self.old }
     {
@@ -253,8 +248,8 @@ impl<S: LooseFiles> Host<S> {
         ensures orderly { IsOrderlyWorld (world_of self.new) }
         ensures right { Trusted self.old → IsRightWorld (world_of self.new) }
 
-        // After sweeps alone that add up to at least twice the number of names that were catalogued, the store
-        // has files exactly for the names of which some tenant has an object.
+        // After sweeps alone that add up to at least twice the number of names that were catalogued, the store has
+        // files exactly for the names under which some tenant has an object.
         ensures sharp { Trusted self.old → IfOk result (λ replies. SharpAfterSweeps self.old.vault (events_given steps.now) replies.items self.new.vault) }
 
         // It is a run of the world.
@@ -276,8 +271,8 @@ impl<S: LooseFiles> Host<S> {
             → (told tenant (events_given steps.now) replies.items ≡ (alone view (met tenant (world_of self.old) (events_given steps.now) replies.items (world_of self.new) run)).0)
             × (map.get (world_of self.new) tenant ≡ Some (alone view (met tenant (world_of self.old) (events_given steps.now) replies.items (world_of self.new) run)).1)) }
 
-        // What a tenant sees at the end, it saw at the start or sent itself, or it was in an offer that the
-        // tenant forked.
+        // A tenant sees at the end only what it saw at the start, what it sent itself, and what was in an offer that it
+        // forked.
         ensures provenance { IfOk result (λ replies. (tenant : List ℕ) (view last : View) (name : List ℕ) (object : Object) (run : Explains (world_of self.old) (events_given steps.now) replies.items (world_of self.new))
             → map.get (world_of self.old) tenant ≡ Some view → map.get (world_of self.new) tenant ≡ Some last → map.get last.objects name ≡ Some object
             → (map.get view.objects name ≡ Some object) ⊎ (WasSent view (exchanges tenant (events_given steps.now) replies.items) name object

@@ -1,5 +1,5 @@
-// Appending to a state that outlives the host's process. What is appended is in order and within the
-// limits, so that it can fail only for lack of memory.
+// Appends to a state that outlives the host's process. What is appended is in order and within the limits, so only lack
+// of memory can make it fail.
 ghost use Rattle.std.specs.Prelude.{◌≡◌, ◌≢◌, ◌<◌, ◌++◌, ◌∷◌, [], OnOk, length, map};
 ghost use Rattle.fork_model.specs.declared.limits.TheConstants.{MAX_OFFERS, MAX_REPOSITORIES, MAX_TENANTS};
 ghost use Rattle.state_text.specs.Adding.{AreBefore, with_offer, with_repository, with_seen};

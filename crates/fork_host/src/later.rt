@@ -17,7 +17,7 @@ pub(crate) enum Bad {
     Object(Name),
 }
 
-// What is reported at the end: a target before a limit, and of each the first.
+// What is reported at the end: the first bad target or, if there is none, the first tenant over its limit.
 #[derive(Drop)]
 pub(crate) enum Later {
     Nothing,
@@ -73,7 +73,7 @@ impl Later {
         }
     }
 
-    // How it is reported.
+    // The error to report at the end, if there is one.
     pub(crate) fn told(self) -> Option<RestoreError>
         ensures { result ≡ first_told self }
     {

@@ -14,10 +14,9 @@ ghost use Rattle.fork_host.specs.Shape.{SameShape};
 ghost use Rattle.fork_host.specs.Shown.{HostState, Trusted, world_of};
 ghost use Rattle.fork_host.specs.Step.{AreNamedAt, IsRun};
 
-/// A law, with no code to run: what a run does as a whole. A run is two runs, split after any of its
-/// steps. Over an honest store it is a run of the world. Over any store the honesty stays, a tenant
-/// that asked nothing keeps its shape, and so does every tenant if nothing was done; and what was
-/// answered under a name has that name.
+/// A law, with no code to run: what a run does as a whole. A run is two runs, split after any of its steps. Over an
+/// honest store it is a run of the world. Over any store the honesty stays, and what was answered under a name has that
+/// name. A tenant that asked nothing keeps its shape, and so does every tenant if nothing was done.
 pub fn a_run_is_its_steps()
     ensures parts { (old new : HostState) (front back : List Event) (told after : List Reply) → IsRun old (front ++ back) (told ++ after) new → length told ≡ length front → (mid : HostState) × IsRun old front told mid × IsRun mid back after new }
     ensures explained { (old new : HostState) (events : List Event) (replies : List Reply) → IsRun old events replies new → Trusted old → Explains (world_of old) events replies (world_of new) }
@@ -36,8 +35,8 @@ pub fn faults_of_a_run_have_a_cause()
     ensures store { FailsForCause }
 {}
 
-/// A law, with no code to run: after requests of tenants that bring no objects a census reports how
-/// many names were catalogued before them; the same holds between two requests for what a tenant uses.
+/// A law, with no code to run: after requests of tenants that bring no objects, a census reports how many names were
+/// catalogued before them. This also holds between two requests for what a tenant uses.
 pub fn a_census_tells_what_stood()
     ensures front { CountsWhatStood }
     ensures between { (old new : HostState) (first then : List ℕ) (reply last : Reply) (text : List ℕ) → IsRun old (Asks first AsksUse ∷ HostAsks Census ∷ Asks then AsksUse ∷ []) (reply ∷ Done text ∷ last ∷ []) new

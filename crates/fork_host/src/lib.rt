@@ -1,6 +1,5 @@
-//! A host of many tenants over one vault. Each request is answered only from the asking tenant's
-//! repositories and private objects. A tenant is told what a private host that holds it alone would
-//! tell it, whatever others do in between.
+//! A host of many tenants over one vault. Each request is answered only from the asking tenant's repositories and
+//! private objects. A tenant gets the replies of a private host that holds it alone, whatever others do in between.
 #![tactic(auto)]
 
 mod accounts;

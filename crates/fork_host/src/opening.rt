@@ -74,7 +74,7 @@ fn add_record<S: LooseFiles>(
     write_behind(alloc, &sealed, bytes)
 }
 
-// The staged object of this name, which is there.
+// The staged object of this name, which must exist.
 fn staged<S: LooseFiles>(
     alloc: Global,
     own: &mut Own<'_, S>,
@@ -105,7 +105,7 @@ fn write_behind(alloc: Global, sealed: &Sealed, bytes: &mut Vec<u8>) -> Result<(
     }
 }
 
-// Adds the unfinished rest, and zero bytes for those that are missing.
+// Adds the unfinished rest, and a zero byte for each one that is missing.
 fn add_end(bytes: &mut Vec<u8>, tail: &[u8], zeros: u64) -> Result<(), AllocError>
     requires { zeros ≤ MAX_UPLOAD }
     ensures { OnOk result (bytes.new.items ≡ bytes.old.items ++ (tail.now ++ replicate zeros 0)) }

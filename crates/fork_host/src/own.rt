@@ -7,6 +7,7 @@ ghost use Rattle.git_name.specs.Count.{fault_in, fault_in as source_fault_in};
 ghost use Rattle.git_reftx.specs.Transaction.{References};
 ghost use Rattle.looks.specs.Growth.{GrowsAmong};
 ghost use Rattle.push_stream.specs.Brief.{brief_shown};
+ghost use Rattle.fork_reach.specs.Bases.{is_best_of};
 ghost use Rattle.fork_reach.specs.Objects.{use_of};
 ghost use Rattle.fork_reach.specs.History.{note_at};
 ghost use Rattle.fork_reach.specs.Reach.{is_between, is_reached, linked_names, parent_names};
@@ -24,10 +25,9 @@ ghost use Rattle.std.specs.Prelude.{[], ℕ, List, Contains, Some, true};
 ghost use Rattle.std.specs.List.{AllByRecursion};
 
 use crate::both::Both;
-use crate::vault_fault::told;
 use fork_ledger::{Held, RecallFault, Vault, VaultFault};
 use fork_push::{Verdict, judge};
-use fork_reach::{Ancestry, SourceFault, reach};
+use fork_reach::{SourceFault, reach};
 use fork_request::TenantName;
 use git_name::{Hashing, Kind, Name, Sealed};
 use git_reftx::Refs;
@@ -130,6 +130,24 @@ impl<'a, S: LooseFiles> Own<'a, S> {
     {
         self.vault
             .known_history(alloc, self.tenant, wanted, excluded)
+    }
+
+    // The best common ancestors of two commits among what the tenant sees, if the vault knows the parents of all their
+    // ancestors.
+    pub(crate) fn bases_seen(
+        &mut self,
+        alloc: Global,
+        a: Name,
+        b: Name,
+    ) -> Result<Option<IndexSet<Name, Hashing>>, AllocError>
+        ensures best { IsTrue self.old.vault.now.honest → IfOk result (λ known. IfSome known (λ best. (name : List ℕ) → contains same_name best name ≡ is_best_of (visible_by self.old) a b name)) }
+
+        // Over any store.
+        ensures seen { IfOk result (λ known. IfSome known (λ best. (name : List ℕ) → contains same_name best name ≡ true → map.contains_key (visible_by self.old) name ≡ true)) }
+        ensures vault { self.new.vault.now ≡ self.old.vault.now }
+        ensures same { IsSame self.old self.new }
+    {
+        self.vault.known_bases(alloc, self.tenant, a, b)
     }
 
     // The committer's seconds of a commit that the tenant sees, if the vault knows them.
@@ -295,35 +313,6 @@ impl<'a, S: LooseFiles> Own<'a, S> {
             tenant: self.tenant,
         };
         judge(alloc, &mut both, finished, references, limit)
-    }
-}
-
-// The parents of commits: those of the commits that the tenant sees.
-impl<S: LooseFiles> Ancestry for Own<'_, S> {
-    ghost commits = { λ own. own.vault.now.commits };
-
-    fn learn(&mut self, alloc: Global, commit: Name) -> Result<(), SourceFault> {
-        told(self.vault.learn(alloc, self.tenant, commit))
-    }
-
-    fn commit_count(&self) -> usize {
-        self.vault.commit_count()
-    }
-
-    fn invariant(&self) {
-        self.vault.invariant();
-    }
-
-    fn place_of(&self, name: Name) -> Option<usize> {
-        self.vault.commit_place(self.tenant, name)
-    }
-
-    fn commit_at(&self, place: usize) -> Option<Name> {
-        self.vault.commit_at(self.tenant, place)
-    }
-
-    fn parent_places(&self, place: usize) -> &[usize] {
-        self.vault.parent_places(self.tenant, place)
     }
 }
 

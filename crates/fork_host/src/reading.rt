@@ -13,6 +13,22 @@ use loose_store::LooseFiles;
 use state_text::TenantState;
 use std::alloc::Global;
 
+// A survey of this store, in which nothing was read yet.
+pub(crate) fn survey_of<S: LooseFiles + Drop>(
+    alloc: Global,
+    files: S,
+) -> Result<Survey<S>, OpenError>
+    ensures contents { IsTrue (S.honest files) → IfOk result (λ survey. survey.contents ≡ S.contents files) }
+    ensures honest { IfOk result (λ survey. survey.honest ≡ S.honest files) }
+    ensures failures { IfOk result (λ survey. survey.failures ≡ S.failures files) }
+{
+    match Survey::new(alloc, files) {
+        Ok(survey) => Ok(survey),
+        Err(VaultFault::Memory) => Err(OpenError::Memory),
+        Err(_) => Err(OpenError::Store),
+    }
+}
+
 // Reads the objects of the names that these tenants saw, each name once.
 pub(crate) fn read_states<S: LooseFiles>(
     alloc: Global,

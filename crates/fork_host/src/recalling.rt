@@ -1,4 +1,4 @@
-// Restoring what a tenant saw, from what was read of it.
+// Restores what a tenant saw, from what was read of it.
 ghost use Rattle.std.specs.Prelude.{◌≡◌, OnErr, OnOk, true};
 ghost use Rattle.std.specs.FinMap as map;
 ghost use Rattle.fork_host.specs.Handle.{IsSame, visible_by};

@@ -111,7 +111,7 @@ impl Repositories {
         repository.set_references(references);
     }
 
-    // Lets HEAD of the repository of this name name this branch.
+    // Makes HEAD of the repository of this name name this branch.
     pub(crate) fn set_head(&mut self, name: &RepositoryName, head: Branch)
         requires { map.contains_key self.old name.now ≡ true }
         ensures { (old : Shown) → map.get self.old name.now ≡ Some old → self.new ≡ map.insert self.old name.now (record old { head = head }) }
@@ -154,7 +154,7 @@ impl Repositories {
         Ok(text)
     }
 
-    // How many references there are in all of them.
+    // How many references all of them have together.
     pub(crate) fn reference_count(&self) -> u128
         ensures { result ≡ references_in self.now }
     {

@@ -8,9 +8,9 @@ use thiserror::Error;
 /// Why a host was not restored, in the order in which it is judged.
 #[derive(Debug, Drop, PartialEq, Eq, Error)]
 pub enum RestoreError {
-    #[error("no file stands under the name of an object that is seen")]
+    #[error("the file of an object that a tenant sees is missing")]
     Lost(Name),
-    #[error("the file of an object that is seen is not whole")]
+    #[error("the file of an object that a tenant sees is damaged")]
     Damaged(Name),
     #[error("an object or the target of a reference is not sound")]
     Unsound(Name),
@@ -22,7 +22,7 @@ pub enum RestoreError {
     Memory,
 }
 
-// A host that is not opened over the store is not restored.
+// If no host can be opened over the store, none is restored.
 impl From<OpenError> for RestoreError {
     ghost from_gives = { λ _ error. IsStoreOrMemory error };
 

@@ -1,4 +1,4 @@
-// Restoring hosts.
+// Restores hosts.
 ghost use Rattle.std.specs.Prelude.{◌≡◌, ◌<◌, IfErr, IfOk, IsTrue, OnErr, OnOk, None, Some, true};
 ghost use Rattle.std.specs.FinMap as map;
 ghost use Rattle.fork_ledger.specs.Private.{nothing};
@@ -18,11 +18,11 @@ use crate::host::Host;
 use crate::later::{Bad, Later};
 use crate::made::Made;
 use crate::own::Own;
-use crate::reading::read_states;
+use crate::reading::{read_states, survey_of};
 use crate::repositories::Repositories;
 use crate::restore_error::RestoreError;
 use crate::seeing::{Against, see_again};
-use fork_ledger::{Survey, Vault};
+use fork_ledger::Vault;
 use fork_request::TenantName;
 use fork_sound::Readings;
 use git_name::Name;
@@ -31,21 +31,19 @@ use state_text::{States, TenantState};
 use std::alloc::{AllocError, Global};
 
 impl<S: LooseFiles + Drop> Host<S> {
-    /// A host that shows these states, over the store that holds their objects. Problems are reported in
-    /// this order: the objects of all tenants; the targets of all references, in each tenant those of
-    /// repositories before those of offers; the limits. Each object is read from the store once, however
-    /// many tenants see it, and judged for each of them from what was read.
+    /// Restores a host with these states, over the store that holds their objects. Reports problems in this order: the
+    /// objects of all tenants; the targets of all references, in each tenant those of repositories before those of
+    /// offers; the limits. Reads each object from the store once, however many tenants see it, and judges it for each
+    /// of them from what was read.
     pub fn restore(alloc: Global, files: S, states: States) -> Result<Host<S>, RestoreError>
         ensures trusted { IfOk result (λ host. IsTrue (S.honest files) → Trusted host) }
         ensures shown { IfOk result (λ host. IsTrue (S.honest files) → IsShownAgain (S.contents files) states (world_of host)) }
         ensures refused { IfErr result (λ error. IsTrue (S.honest files) → AreRefused (S.contents files) states error) }
         ensures store { IfOk result (λ host. IsOver (S.contents files) (S.honest files) (S.failures files) host.vault) }
     {
-        let Ok(mut survey) = Survey::new(alloc, files) else {
-            return Err(RestoreError::Memory);
-        };
+        let mut survey = survey_of(alloc, files)?;
         let readings = read_states(alloc, &mut survey, states.as_slice())?;
-        let mut host = Host::over(alloc, survey)?;
+        let mut host = Host::over(alloc, survey);
         let mut later = Later::Nothing;
         for state in states.as_slice() {
             let judged = host.restore_tenant(alloc, &readings, state);
@@ -108,7 +106,7 @@ impl<S: LooseFiles> Host<S> {
         }
     }
 
-    // Lets a tenant that sees nothing see again what it saw. On failure it sees nothing.
+    // Lets a tenant that sees nothing see again what it saw. After a failure it sees nothing.
     fn refill(
         &mut self,
         alloc: Global,
@@ -164,7 +162,7 @@ pub(crate) fn see_in<S: LooseFiles>(
     see_again(alloc, &mut own, readings, state)
 }
 
-// How a bad object is reported.
+// The error that reports what is bad.
 fn why<S: LooseFiles + Drop>(alloc: Global, files: S, bad: Bad) -> RestoreError
     ensures { IsTrue (S.honest files) → IsWhy (S.contents files) bad result }
 {

@@ -1,4 +1,4 @@
-// Letting a tenant see again what it saw.
+// Lets a tenant see again what it saw.
 ghost use Rattle.std.specs.Prelude.{◌≡◌, ◌≤◌, IfErr, IfOk, IsTrue, None, OnErr, OnOk, true};
 ghost use Rattle.std.specs.BTreeSet.{contains};
 ghost use Rattle.std.specs.FinMap as map;
@@ -32,9 +32,9 @@ pub(crate) enum Against {
     Memory,
     // The object of this name is missing, damaged or unsound.
     BadObject(Name),
-    // A reference points at this name, and may not.
+    // A reference points at this name, but must not.
     Astray(Name),
-    // It uses more than the limit allows.
+    // The tenant uses more than its limit allows.
     Limit,
 }
 

@@ -139,8 +139,8 @@ pub(crate) fn settle_upload<S: LooseFiles>(
     }
 }
 
-// Judges the commands and the staged objects of these names, and takes them if they are accepted. What
-// is not accepted stays staged.
+// Judges the commands and the staged objects of these names, and takes them if they are accepted. Objects that are not
+// accepted stay staged.
 fn settle<S: LooseFiles>(
     alloc: Global,
     repositories: &mut Repositories,

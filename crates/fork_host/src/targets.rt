@@ -33,7 +33,7 @@ pub(crate) fn first_bad_target<K: Known>(known: &K, state: &TenantState) -> Opti
     bad_in_offers(known, state.offers())
 }
 
-// The same for repositories.
+// As `first_bad_target`, for repositories.
 fn bad_in_repositories<K: Known>(
     known: &K,
     repositories: &[(RepositoryName, Repository)],
@@ -49,7 +49,7 @@ fn bad_in_repositories<K: Known>(
     None
 }
 
-// The same for offers.
+// As `first_bad_target`, for offers.
 fn bad_in_offers<K: Known>(known: &K, offers: &[Offer]) -> Option<Name>
     ensures { result ≡ option_map target_of (find (is_bad_target (K.kinds known.now)) (flat_map references_in (mapped (λ offer. offer.repository) offers.now))) }
 {
@@ -62,7 +62,7 @@ fn bad_in_offers<K: Known>(known: &K, offers: &[Offer]) -> Option<Name>
     None
 }
 
-// The same for one repository.
+// As `first_bad_target`, for one repository.
 fn bad_target_in<K: Known>(known: &K, references: &Refs) -> Option<Name>
     ensures { result ≡ option_map target_of (find (is_bad_target (K.kinds known.now)) (map.entries references.now)) }
 {
@@ -74,7 +74,7 @@ fn bad_target_in<K: Known>(known: &K, references: &Refs) -> Option<Name>
     None
 }
 
-// The same for one reference.
+// Whether one reference points at no known object, or is a branch and points at no commit.
 fn is_bad_target<K: Known>(known: &K, reference: &[u8], target: Name) -> bool
     ensures { result ≡ is_bad_target (K.kinds known.now) (reference.now, target) }
 {

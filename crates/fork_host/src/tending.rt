@@ -50,7 +50,7 @@ fn told_number(text: Vec<u8>, number: u64) -> Reply
     Reply::Done(ByteString::new(text))
 }
 
-// Sweeps: at most this many looks.
+// Sweeps, with at most this many looks.
 fn sweep<S: LooseFiles>(alloc: Global, vault: &mut Vault<S>, most: u64) -> Reply
     ensures says { (world : World) → HostSays world (HostRequest.Sweep most) result ⊎ (is_host_fault result ≡ true) }
     ensures tends { Tends (HostRequest.Sweep most) vault.old result vault.new }
@@ -67,7 +67,7 @@ fn sweep<S: LooseFiles>(alloc: Global, vault: &mut Vault<S>, most: u64) -> Reply
     }
 }
 
-// One whole round of looks.
+// Collects: one whole round of looks.
 fn collect<S: LooseFiles>(alloc: Global, vault: &mut Vault<S>) -> Reply
     ensures says { (world : World) → HostSays world HostRequest.Collect result ⊎ (is_host_fault result ≡ true) }
     ensures tends { Tends HostRequest.Collect vault.old result vault.new }
@@ -121,7 +121,7 @@ fn fsck<S: LooseFiles>(alloc: Global, vault: &mut Vault<S>) -> Reply
     }
 }
 
-// Reports what each tenant has and may have, in numbers.
+// Reports for each tenant, in numbers, what it has and may have.
 fn tell_tenants<S: LooseFiles>(alloc: Global, accounts: &Accounts, vault: &Vault<S>) -> Reply
     requires orderly { IsOrderlyWorld (world_of (state_of accounts.now vault.now)) }
     ensures says { HostSays (world_of (state_of accounts.now vault.now)) HostRequest.Tenants result ⊎ (is_host_fault result ≡ true) }

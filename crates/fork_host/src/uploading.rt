@@ -1,4 +1,4 @@
-// Receiving a piece of an upload, whose objects are staged as they arrive.
+// Receives a piece of an upload, and stages its objects as they arrive.
 ghost use Rattle.std.specs.Prelude.{◌≡◌, ◌≤◌, ◌+◌, ◌<◌, ◌++◌, ℕ, [], List, length, true};
 ghost use Rattle.std.specs.FinMap as map;
 ghost use Rattle.looks.specs.Growth.{GrowsAmong};
@@ -19,8 +19,8 @@ use loose_store::LooseFiles;
 use push_stream::{Incoming, MAX_UPLOAD};
 use std::alloc::Global;
 
-// Receives a piece of an upload, if there is room for it. Its objects are staged beside those before;
-// if the stream is wrong with it, none stays staged. A host fault leaves what was received before.
+// Receives a piece of an upload, if there is room for it. Stages its objects beside the earlier ones; if the stream is
+// wrong with it, none stays staged. A host fault leaves what was received before.
 pub(crate) fn feed<S: LooseFiles>(
     alloc: Global,
     own: &mut Own<'_, S>,

@@ -62,6 +62,15 @@ impl<S: LooseFiles> Source for Own<'_, S> {
         self.history_seen(alloc, wanted, excluded)
     }
 
+    fn known_bases(
+        &mut self,
+        alloc: Global,
+        a: Name,
+        b: Name,
+    ) -> Result<Option<IndexSet<Name, Hashing>>, AllocError> {
+        self.bases_seen(alloc, a, b)
+    }
+
     fn known_seconds(&self, name: Name) -> Option<u64> {
         self.seconds_seen(name)
     }

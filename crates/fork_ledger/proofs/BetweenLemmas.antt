@@ -13,7 +13,7 @@ use Rattle.git_object.specs.Object.{CommitOf}
 use Rattle.git_object.specs.ObjectIn.{links_in, links_or_none, object_in}
 use Rattle.git_commit.specs.Commit.{CommitValue}
 use Rattle.git_commit.specs.CommitIn.{commit_in}
-use Rattle.commit_graph.specs.Parents.{parents_in, parents_or_none}
+use Rattle.fork_reach.specs.ParentNames.{parents_in, parents_or_none}
 use Rattle.fork_reach.specs.History.{note_at, note_of_found, seconds_in, seconds_or_zero, time_in, time_or_zero}
 use Rattle.fork_reach.specs.Reach.{IsReached, Root, Next, is_between, is_reached, linked_names, links_of_found, parent_names, parents_of_found}
 use Rattle.number_links.specs.Facts.{Learned, goes_from, nothing, parents_from, time_beside, told}
@@ -178,7 +178,7 @@ module _ (files : Files) (m : AllWords) (t : List ℕ) (links : NamedLinks) (alo
   no_roots _ (Root q root there) = (let l = root.1 in absurd (omega (arith, l)))
   no_roots _ (Next from q before leads there) = no_roots from before
 
-  word_there : (roots : List (List ℕ)) (q : List ℕ) → IsReached next words roots q → contains_key words q ≡ true
+  pub word_there : (roots : List (List ℕ)) (q : List ℕ) → IsReached next words roots q → contains_key words q ≡ true
   word_there roots _ (Root q root there) = there
   word_there roots _ (Next from q before leads there) = there
 
@@ -193,7 +193,7 @@ module _ (files : Files) (m : AllWords) (t : List ℕ) (links : NamedLinks) (alo
 
   -- ---- over an honest one
   module _ (stored : IsStored (tenants_of files m) files) (led : AreLed links files) where
-    same_next : (q : List ℕ) → contains_key words q ≡ true → Rests q → next q ≡ names_along along objects q
+    pub same_next : (q : List ℕ) → contains_key words q ≡ true → Rests q → next q ≡ names_along along objects q
     same_next q there rests = by (get links q) refl rests ∙ sym (ap (names_from along) both.2)
       where
         both : (word : Word) × (get words q ≡ Some word) × (get objects q ≡ Some (object_at files q word))
@@ -223,12 +223,12 @@ module _ (files : Files) (m : AllWords) (t : List ℕ) (links : NamedLinks) (alo
         ap (λ (l : Learned (List ℕ)). l.time - 1) (sym stands.2) ∙ seconds_told stands.0.kind stands.0.bytes
         ∙ ap (λ (o : Object). seconds_in o.kind o.bytes) (one_whole files q stands.0 whole.0 stands.1 whole.2 ∙ it) ∙ sym (ap (λ o. (note_of_found o).seconds) both.2)
 
-    forth : (roots : List (List ℕ)) → ((q : List ℕ) → IsLedTo words next roots q → Rests q) → (q : List ℕ) → IsLedTo words next roots q → IsReached (names_along along objects) objects roots q
+    pub forth : (roots : List (List ℕ)) → ((q : List ℕ) → IsLedTo words next roots q → Rests q) → (q : List ℕ) → IsLedTo words next roots q → IsReached (names_along along objects) objects roots q
     forth roots known _ (Root q root there) = Root q root (sym (same_keys files m t q) ∙ there)
     forth roots known _ (Next from q before leads there) =
         Next from q (forth roots known from before) (subst (λ ns. Contains ns q) (same_next from (word_there roots from before) (known from before)) leads) (sym (same_keys files m t q) ∙ there)
 
-    back : (roots : List (List ℕ)) → ((q : List ℕ) → IsLedTo words next roots q → Rests q) → (q : List ℕ) → IsReached (names_along along objects) objects roots q → IsLedTo words next roots q
+    pub back : (roots : List (List ℕ)) → ((q : List ℕ) → IsLedTo words next roots q → Rests q) → (q : List ℕ) → IsReached (names_along along objects) objects roots q → IsLedTo words next roots q
     back roots known _ (Root q root there) = Root q root (same_keys files m t q ∙ there)
     back roots known _ (Next from q before leads there) =
         (let earlier = back roots known from before in

@@ -6,7 +6,6 @@ use Rattle.std.specs.Option.{option_map, unwrap_or}
 use Rattle.std.specs.FinMap.{contains_key, empty, get}
 use Rattle.std.proofs.lemmas.List.Elements.{All-contains, All-map}
 use Rattle.git_name.specs.Object.{Object, object_name}
-use Rattle.commit_graph.specs.Graph.{Commits}
 use Rattle.object_table.specs.Clashes.{AreApart, AreAs, Clash}
 use Rattle.object_table.specs.declared.entry.Entry.{Entry}
 use Rattle.object_table.specs.declared.word.Word.{Word}
@@ -137,16 +136,15 @@ no_clash files m n objects still whole told clash = elim clash.met [ inl refuses
 
 -- ---- a vault
 -- what a vault shows over a store and holdings
-abbrev pub shown_over : StoreState → HoldingsState → Commits → VaultState
-shown_over store holdings commits = record {
+abbrev pub shown_over : StoreState → HoldingsState → VaultState
+shown_over store holdings = record {
   tenants = tenants_of store.contents holdings.ledgers;
   files = store.contents;
   honest = store.honest;
   failures = store.failures;
   places = places_of holdings.catalogue;
-  commits = commits;
 }
 
 -- both as they were
-pub vault_still : (store store_now : StoreState) (holdings holdings_now : HoldingsState) (commits : Commits) → store_now ≡ store → holdings_now ≡ holdings → shown_over store_now holdings_now commits ≡ shown_over store holdings commits
-vault_still store store_now holdings holdings_now commits same still = λ i. shown_over (same i) (still i) commits
+pub vault_still : (store store_now : StoreState) (holdings holdings_now : HoldingsState) → store_now ≡ store → holdings_now ≡ holdings → shown_over store_now holdings_now ≡ shown_over store holdings
+vault_still store store_now holdings holdings_now same still = λ i. shown_over (same i) (still i)

@@ -2,12 +2,14 @@
 use Rattle.std.proofs.Common.{◌≡◌, ◌≢◌, ℕ, List, [], ◌∷◌, ◌++◌, ◌||◌, ◌&&◌, not, Bool, true, false, None, cond, is_some, refl, sym, ap, ◌∙◌}
 use Rattle.std.specs.Cmp.{eq_by_cmp_equiv}
 use Rattle.std.specs.FinMap.{contains_key, contains_key-keys, get, get-remove, keys, remove}
-use Rattle.std.specs.List.{list_any}
+use Rattle.std.specs.List.{AllByRecursion, IsDistinct, list_any}
 use Rattle.std.specs.Ordering.{eq_by_cmp}
 use Rattle.std.proofs.lemmas.Cmp.{nat_list_eq_equiv}
+use Rattle.std.proofs.lemmas.Map.Keys.{IsDistinct-from_sorted}
 use Rattle.git_name.specs.Name.{name_cmp}
 use Rattle.git_name.proofs.Names.{name_total}
 use Rattle.git_name.specs.Same.{is_listed, same_name}
+use Rattle.fork_reach.proofs.KeyLemmas.{keys_ascend}
 use Rattle.looks.specs.Places.{Places}
 use Rattle.object_table.specs.Rows.{LooksNextAt}
 use Rattle.object_table.proofs.PlaceLemmas.{one_name, own_name}
@@ -75,3 +77,16 @@ listed_alike (name ∷ names) q = ap (λ b. b || list_any (eq_by_cmp name_cmp q)
 
 pub keys_listed : (files : Files) (q : List ℕ) → is_listed (keys files) q ≡ contains_key files q
 keys_listed files q = sym (contains_key-keys files q ∙ listed_alike (keys files) q)
+
+-- and each is there once
+unlike : (first : List ℕ) (rest : List (List ℕ)) → AllByRecursion (λ other. eq_by_cmp name_cmp first other ≡ false) rest → AllByRecursion (λ other. same_name first other ≡ false) rest
+unlike first [] each = tt
+unlike first (other ∷ rest) each = (nat_list_eq_equiv.symm first other ∙ sym (same_tests first other) ∙ each.0, unlike first rest each.1)
+
+distinct_names : (names : List (List ℕ)) → IsDistinct (eq_by_cmp name_cmp) names → IsDistinct same_name names
+unfolding IsDistinct
+distinct_names [] all = tt
+distinct_names (name ∷ names) all = (unlike name names all.0, distinct_names names all.1)
+
+pub keys_distinct : (files : Files) → IsDistinct same_name (keys files)
+keys_distinct files = distinct_names (keys files) (IsDistinct-from_sorted name_cmp (keys files) (keys_ascend files))

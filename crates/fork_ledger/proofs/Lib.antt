@@ -1,19 +1,18 @@
+mod LentLemmas
 pub mod AdoptedLemmas
 pub mod AdoptedStore
 pub mod AllStagedLemmas
+pub mod BaseLemmas
 pub mod BetweenLemmas
 pub mod BothLemmas
 pub mod CameLemmas
 pub mod CheckLemmas
 pub mod ClashLemmas
 pub mod CoverLemmas
-pub mod GraphLemmas
 pub mod HarmLemmas
 pub mod HeldLemmas
 pub mod KeepingLemmas
 pub mod LedLemmas
-mod LentLemmas
-pub mod LinkLemmas
 pub mod LookLemmas
 pub mod OwnLemmas
 pub mod RecallLemmas

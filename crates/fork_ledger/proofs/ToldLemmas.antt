@@ -150,7 +150,3 @@ total_shown files words = same_sums name_total name_exact use_of_word use_of_obj
     by : (q : List ℕ) (o : Option Word) → worth use_of_word o ≡ worth use_of_object (option_map (object_at files q) o)
     by q None = refl
     by q (Some word) = sym (use_at files q word)
-
--- what is seen is not hidden
-pub seen_not_hidden : {X : Type 0} (seen : Bool) → seen ≡ true → seen ≡ false → X
-seen_not_hidden seen is hidden = (let differs : true ≡ false = sym is ∙ hidden in absurd (cc))

@@ -2,9 +2,7 @@ pub mod AllStaged
 pub mod Checked
 pub mod Harms
 pub mod Kept
-pub mod Learning
 pub mod Led
-pub mod Linked
 pub mod Private
 pub mod Shown
 pub mod Store

@@ -29,13 +29,12 @@ pub record IsOver (contents : Files) (trusted : Bool) (count : ℕ) (vault : Vau
   pub honest : vault.honest ≡ trusted
   pub failures : vault.failures ≡ count
 
--- the store is not asked, the catalogue's names and place stay, and what is known of commits
+-- the store is not asked, and the catalogue's names and place stay
 pub record LeavesStore (old new : VaultState) : Type 0 where
   pub files : new.files ≡ old.files
   pub honest : new.honest ≡ old.honest
   pub failures : new.failures ≡ old.failures
   pub places : new.places ≡ old.places
-  pub commits : new.commits ≡ old.commits
 
 -- a file stands under this name, and is whole of no object
 abbrev pub IsDamaged : Files → List ℕ → Type 0

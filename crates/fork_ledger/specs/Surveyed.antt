@@ -1,10 +1,22 @@
 -- What a survey of a store finds (own).
-use Rattle.std.specs.Prelude.{ℕ, List, Option, None, Some}
+use Rattle.std.specs.Prelude.{◌≡◌, IsTrue, ℕ, List, Option, None, Some}
+use Rattle.std.specs.FinMap.{empty, keys}
 use Rattle.git_name.specs.Object.{Object}
 use Rattle.loose_store.specs.Files.{Files}
 use Rattle.loose_store.specs.Stored.{Whole}
+use Rattle.object_table.specs.Holders.{HoldingsState}
+use Rattle.object_table.specs.Rows.{places_of}
+use Rattle.read_cache.specs.Stores.{StoreState}
+use Rattle.fork_ledger.specs.Led.{AreLed}
 
--- the object that stands whole under this name, and nothing where none does
+-- the object whose whole file has this name, or none if there is no such object
 abbrev pub IsSurveyed : Files → List ℕ → Option Object → Type 0
 IsSurveyed files name (Some object) = Whole files name object
 IsSurveyed files name None = (object : Object) → Whole files name object → ⊥
+
+-- nobody holds anything yet; over an honest store the catalogue has the names of the files, ascending, and what is known of them is so
+pub record IsCatalogued (store : StoreState) (holdings : HoldingsState) : Type 0 where
+  pub ledgers : holdings.ledgers ≡ empty
+  pub place : (places_of holdings.catalogue).place ≡ 0
+  pub names : IsTrue store.honest → (places_of holdings.catalogue).names ≡ keys store.contents
+  pub led : IsTrue store.honest → AreLed holdings.links store.contents

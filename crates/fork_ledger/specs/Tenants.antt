@@ -5,7 +5,6 @@ use Rattle.std.specs.Coded.{Coded, code_by, coded×, coded_bool, coded_ℕ, code
 use Rattle.std.specs.FinMap.{FinMap, get, insert, contains_key, code}
 use Rattle.git_name.specs.Maps.{map_values}
 use Rattle.git_name.specs.Name.{name_cmp}
-use Rattle.commit_graph.specs.Graph.{Commits}
 use Rattle.fork_reach.specs.Objects.{Measures}
 use Rattle.looks.specs.Places.{Places, places_code}
 use Rattle.loose_store.specs.Files.{Files}
@@ -16,14 +15,13 @@ abbrev pub Tenants : Type 0
 Tenants = FinMap name_cmp Private
 
 -- what a vault shows: the private maps; the files of the store, whether it gives what it was given, and how often it failed;
--- for looks alone the catalogued names in their places, and the place of the next look; and the commits whose parents are known
+-- and for looks alone the catalogued names in their places, and the place of the next look
 pub record VaultState : Type 0 where
   pub tenants : Tenants
   pub files : Files
   pub honest : Bool
   pub failures : ℕ
   pub places : Places
-  pub commits : Commits
 
 -- a tenant's private maps; an unknown one has no objects
 abbrev pub private_of : Tenants → List ℕ → Private
@@ -41,13 +39,10 @@ at_tenant tenants tenant change = if contains_key tenants tenant then insert ten
 abbrev pub shape_of : Tenants → FinMap name_cmp (Measures × Measures)
 shape_of tenants = map_values private_measures tenants
 
-abbrev commits_code : Coded Commits
-commits_code = coded_list (coded× (coded_list coded_ℕ) (coded_list (coded_list coded_ℕ)))
-
 -- what a vault shows has a code, so that it can be a model's value
 abbrev pub vault_code : Coded VaultState
 vault_code =
-    code_by (Tenants × (Files × (Bool × (ℕ × (Places × Commits)))))
-    (coded× (code (coded_list coded_ℕ) private_code) (coded× (code (coded_list coded_ℕ) (coded_list coded_ℕ)) (coded× coded_bool (coded× coded_ℕ (coded× places_code commits_code)))))
-    (λ state. (state.tenants, (state.files, (state.honest, (state.failures, (state.places, state.commits))))))
-    (λ p. record { tenants = p.0; files = p.1.0; honest = p.1.1.0; failures = p.1.1.1.0; places = p.1.1.1.1.0; commits = p.1.1.1.1.1 }) (λ _. refl)
+    code_by (Tenants × (Files × (Bool × (ℕ × Places))))
+    (coded× (code (coded_list coded_ℕ) private_code) (coded× (code (coded_list coded_ℕ) (coded_list coded_ℕ)) (coded× coded_bool (coded× coded_ℕ places_code))))
+    (λ state. (state.tenants, (state.files, (state.honest, (state.failures, state.places)))))
+    (λ p. record { tenants = p.0; files = p.1.0; honest = p.1.1.0; failures = p.1.1.1.0; places = p.1.1.1.1 }) (λ _. refl)

@@ -11,7 +11,6 @@ mod harms;
 mod held;
 mod laws;
 mod leading;
-mod learning;
 mod looking;
 mod reading;
 mod recalling;

@@ -6,11 +6,9 @@ ghost use Rattle.object_table.specs.Rows.{LooksNextAt, places_of};
 ghost use Rattle.object_table.specs.Holders.{holders_of, is_held_in};
 ghost use Rattle.fork_ledger.specs.Kept.{Covers, IsExact, KeepsHeld, TakesAway};
 ghost use Rattle.fork_ledger.specs.Led.{AreLed};
-ghost use Rattle.fork_ledger.specs.Linked.{AreLinked};
 ghost use Rattle.fork_ledger.specs.Store.{CountsFault};
 
 use crate::fault::VaultFault;
-use commit_graph::Graph;
 use git_name::Name;
 use loose_store::{FileFault, LooseFiles};
 use object_table::Holdings;
@@ -22,7 +20,6 @@ fn take_away<S: LooseFiles>(
     alloc: Global,
     files: &mut CachedStore<S>,
     holdings: &mut Holdings,
-    graph: &mut Graph,
     name: Name,
 ) -> Result<(), VaultFault>
     requires next { LooksNextAt (places_of holdings.old.catalogue) name }
@@ -35,14 +32,12 @@ fn take_away<S: LooseFiles>(
     ensures covers { IsTrue files.old.honest → Covers files.old.contents (places_of holdings.old.catalogue) → Covers files.new.contents (places_of holdings.new.catalogue) }
     ensures exact { IsTrue files.old.honest → OnOk result (IsExact files.old.contents (places_of holdings.old.catalogue) → IsExact files.new.contents (places_of holdings.new.catalogue)) }
     ensures away { IsTrue files.old.honest → OnOk result (TakesAway files.old.contents files.new.contents) }
-    ensures linked { IsTrue files.old.honest → AreLinked graph.old files.old.contents → AreLinked graph.new files.new.contents }
     ensures led { IsTrue files.old.honest → AreLed holdings.old.links files.old.contents → AreLed holdings.new.links files.new.contents }
     ensures honest { files.new.honest ≡ files.old.honest }
     ensures cause { CountsFault files.old.failures files.new.failures (fault_in result) }
     ensures undamaged { IfErr result (λ fault. fault ≢ VaultFault.Damaged) }
     ensures apart { IfErr result (λ fault. fault ≢ VaultFault.Collision) }
 {
-    graph.forget(name);
     match files.remove(alloc, name) {
         Ok(()) => {
             holdings.leave(name);
@@ -64,7 +59,6 @@ pub(crate) fn look_once<S: LooseFiles>(
     alloc: Global,
     files: &mut CachedStore<S>,
     holdings: &mut Holdings,
-    graph: &mut Graph,
 ) -> Result<bool, VaultFault>
     requires { 0 < length (places_of holdings.old.catalogue).names }
     ensures look { OnOk result (Look (is_held_in holdings.old.ledgers) (places_of holdings.old.catalogue) (places_of holdings.new.catalogue)) }
@@ -75,7 +69,6 @@ pub(crate) fn look_once<S: LooseFiles>(
     ensures covers { IsTrue files.old.honest → Covers files.old.contents (places_of holdings.old.catalogue) → Covers files.new.contents (places_of holdings.new.catalogue) }
     ensures exact { IsTrue files.old.honest → OnOk result (IsExact files.old.contents (places_of holdings.old.catalogue) → IsExact files.new.contents (places_of holdings.new.catalogue)) }
     ensures away { IsTrue files.old.honest → OnOk result (TakesAway files.old.contents files.new.contents) }
-    ensures linked { IsTrue files.old.honest → AreLinked graph.old files.old.contents → AreLinked graph.new files.new.contents }
     ensures led { IsTrue files.old.honest → AreLed holdings.old.links files.old.contents → AreLed holdings.new.links files.new.contents }
     ensures honest { files.new.honest ≡ files.old.honest }
     ensures cause { CountsFault files.old.failures files.new.failures (fault_in result) }
@@ -86,7 +79,7 @@ pub(crate) fn look_once<S: LooseFiles>(
         holdings.pass();
         return Ok(false);
     };
-    match take_away(alloc, files, holdings, graph, name) {
+    match take_away(alloc, files, holdings, name) {
         Ok(()) => Ok(true),
         Err(fault) => Err(fault),
     }

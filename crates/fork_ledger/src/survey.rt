@@ -4,21 +4,26 @@ ghost use Rattle.git_name.specs.Count.{fault_in};
 ghost use Rattle.fork_ledger.specs.Store.{CountsFault};
 ghost use Rattle.fork_ledger.specs.Surveyed.{IsSurveyed};
 
+use crate::arrival::store_fault;
 use crate::fault::VaultFault;
+use crate::leading::learn_links;
 use git_name::{Name, Sealed};
 use loose_store::{LooseFiles, StoreFault};
+use object_table::Holdings;
 use read_cache::CachedStore;
-use std::alloc::{AllocError, Global};
+use std::alloc::Global;
 use std::marker::Model;
 
 /// A store whose objects are read before a vault is over it. The vault then recalls them for tenants without
-/// reading them again.
+/// reading them again, and knows their links.
 #[derive(Drop)]
 pub struct Survey<S: LooseFiles> {
     pub(crate) files: CachedStore<S>,
+    pub(crate) holdings: Holdings,
 }
 
 impl<S: LooseFiles> Model for Survey<S> {
+    ghost use Rattle.fork_ledger.specs.Surveyed.{IsCatalogued};
     ghost use Rattle.read_cache.specs.Stores.{StoreState, store_code};
 
     ghost Value = { StoreState };
@@ -26,22 +31,34 @@ impl<S: LooseFiles> Model for Survey<S> {
     ghost coded = { store_code };
 
     ghost view = { λ a. a.files };
+
+    ghost invariant = { λ a. IsCatalogued a.files a.holdings };
 }
 
 impl<S: LooseFiles + Drop> Survey<S> {
-    /// A survey of this store in which nothing was read yet.
-    pub fn new(alloc: Global, files: S) -> Result<Survey<S>, AllocError>
-        ensures contents { IfOk result (λ survey. survey.contents ≡ S.contents files) }
+    /// A survey of this store in which nothing was read yet. The names of the files are listed.
+    pub fn new(alloc: Global, files: S) -> Result<Survey<S>, VaultFault>
+        ensures contents { IsTrue (S.honest files) → IfOk result (λ survey. survey.contents ≡ S.contents files) }
         ensures honest { IfOk result (λ survey. survey.honest ≡ S.honest files) }
         ensures failures { IfOk result (λ survey. survey.failures ≡ S.failures files) }
+        ensures cause { IfErr result (λ fault. (fault ≡ VaultFault.Store) ⊎ (fault ≡ VaultFault.Memory)) }
     {
-        let files = CachedStore::new(alloc, files)?;
-        Ok(Survey { files })
+        let Ok(mut files) = CachedStore::new(alloc, files) else {
+            return Err(VaultFault::Memory);
+        };
+        let names = match files.names(alloc) {
+            Ok(names) => names,
+            Err(fault) => return Err(store_fault(fault)),
+        };
+        match Holdings::over(alloc, files.hashing(), names.as_slice()) {
+            Ok(holdings) => Ok(Survey { files, holdings }),
+            Err(_) => Err(VaultFault::Memory),
+        }
     }
 }
 
 impl<S: LooseFiles> Survey<S> {
-    /// The object of this name, if its file is whole.
+    /// The object of this name, if its file is whole. Its links are known from then on.
     pub fn read(&mut self, alloc: Global, name: Name) -> Result<Option<Sealed>, VaultFault>
         ensures found { IsTrue self.old.honest → IfOk result (IsSurveyed self.old.contents name) }
         ensures kept { IsTrue self.old.honest → self.new.contents ≡ self.old.contents }
@@ -53,7 +70,17 @@ impl<S: LooseFiles> Survey<S> {
         ensures cause { IfErr result (λ fault. (fault ≡ VaultFault.Store) ⊎ (fault ≡ VaultFault.Memory)) }
     {
         match self.files.survey(alloc, name) {
-            Ok(found) => Ok(found),
+            Ok(Some(sealed)) => {
+                learn_links(
+                    alloc,
+                    &mut self.holdings,
+                    name,
+                    sealed.kind(),
+                    sealed.bytes(),
+                );
+                Ok(Some(sealed))
+            }
+            Ok(None) => Ok(None),
             Err(StoreFault::Damaged) => Ok(None),
             Err(StoreFault::Device) => Err(VaultFault::Store),
             Err(StoreFault::Memory) => Err(VaultFault::Memory),

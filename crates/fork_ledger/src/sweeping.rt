@@ -8,12 +8,10 @@ ghost use Rattle.object_table.specs.Rows.{places_of};
 ghost use Rattle.object_table.specs.Holders.{is_held_in};
 ghost use Rattle.fork_ledger.specs.Kept.{Covers, IsExact, KeepsHeld, TakesAway};
 ghost use Rattle.fork_ledger.specs.Led.{AreLed};
-ghost use Rattle.fork_ledger.specs.Linked.{AreLinked};
 ghost use Rattle.fork_ledger.specs.Store.{CountsFault};
 
 use crate::fault::VaultFault;
 use crate::looking::look_once;
-use commit_graph::Graph;
 use loose_store::LooseFiles;
 use object_table::Holdings;
 use read_cache::CachedStore;
@@ -30,7 +28,6 @@ pub(crate) fn sweep<S: LooseFiles>(
     alloc: Global,
     files: &mut CachedStore<S>,
     holdings: &mut Holdings,
-    graph: &mut Graph,
     most: u64,
 ) -> Result<u64, VaultFault>
     ensures sweeps { OnOk result (Sweeps (is_held_in holdings.old.ledgers) most (places_of holdings.old.catalogue) (places_of holdings.new.catalogue)) }
@@ -42,7 +39,6 @@ pub(crate) fn sweep<S: LooseFiles>(
     ensures covers { IsTrue files.old.honest → Covers files.old.contents (places_of holdings.old.catalogue) → Covers files.new.contents (places_of holdings.new.catalogue) }
     ensures exact { IsTrue files.old.honest → OnOk result (IsExact files.old.contents (places_of holdings.old.catalogue) → IsExact files.new.contents (places_of holdings.new.catalogue)) }
     ensures away { IsTrue files.old.honest → OnOk result (TakesAway files.old.contents files.new.contents) }
-    ensures linked { IsTrue files.old.honest → AreLinked graph.old files.old.contents → AreLinked graph.new files.new.contents }
     ensures led { IsTrue files.old.honest → AreLed holdings.old.links files.old.contents → AreLed holdings.new.links files.new.contents }
     ensures honest { files.new.honest ≡ files.old.honest }
     ensures cause { CountsFault files.old.failures files.new.failures (fault_in result) }
@@ -54,7 +50,7 @@ pub(crate) fn sweep<S: LooseFiles>(
         if holdings.len() == 0 {
             return Ok(count);
         }
-        let left = look_once(alloc, files, holdings, graph)?;
+        let left = look_once(alloc, files, holdings)?;
         count += number_of(left);
     }
     Ok(count)
@@ -65,7 +61,6 @@ pub(crate) fn collect<S: LooseFiles>(
     alloc: Global,
     files: &mut CachedStore<S>,
     holdings: &mut Holdings,
-    graph: &mut Graph,
 ) -> Result<u64, VaultFault>
     ensures collects { OnOk result (Collects (is_held_in holdings.old.ledgers) (places_of holdings.old.catalogue) (places_of holdings.new.catalogue)) }
     ensures fault { OnErr result ((n : ℕ) × Walks (is_held_in holdings.old.ledgers) n (at_start (places_of holdings.old.catalogue)) (places_of holdings.new.catalogue)) }
@@ -75,7 +70,6 @@ pub(crate) fn collect<S: LooseFiles>(
     ensures covers { IsTrue files.old.honest → Covers files.old.contents (places_of holdings.old.catalogue) → Covers files.new.contents (places_of holdings.new.catalogue) }
     ensures exact { IsTrue files.old.honest → OnOk result (IsExact files.old.contents (places_of holdings.old.catalogue) → IsExact files.new.contents (places_of holdings.new.catalogue)) }
     ensures away { IsTrue files.old.honest → OnOk result (TakesAway files.old.contents files.new.contents) }
-    ensures linked { IsTrue files.old.honest → AreLinked graph.old files.old.contents → AreLinked graph.new files.new.contents }
     ensures led { IsTrue files.old.honest → AreLed holdings.old.links files.old.contents → AreLed holdings.new.links files.new.contents }
     ensures honest { files.new.honest ≡ files.old.honest }
     ensures cause { CountsFault files.old.failures files.new.failures (fault_in result) }
@@ -85,7 +79,7 @@ pub(crate) fn collect<S: LooseFiles>(
     holdings.restart();
     let mut count = 0;
     for done in 0..holdings.len() {
-        let left = look_once(alloc, files, holdings, graph)?;
+        let left = look_once(alloc, files, holdings)?;
         count += number_of(left);
     }
     holdings.restart();

@@ -7,8 +7,7 @@ ghost use Rattle.git_name.specs.Maps.{joined};
 ghost use Rattle.git_name.specs.Object.{Object, object_name};
 ghost use Rattle.git_name.specs.Same.{is_listed, same_name};
 ghost use Rattle.git_name.specs.Count.{fault_in};
-ghost use Rattle.commit_graph.specs.Graph.{IsGraph, name_at, parents_at};
-ghost use Rattle.fork_reach.specs.Known.{AreParents, seen_name, seen_place};
+ghost use Rattle.fork_reach.specs.Bases.{is_best_of};
 ghost use Rattle.fork_reach.specs.Objects.{use_of};
 ghost use Rattle.fork_reach.specs.History.{note_at};
 ghost use Rattle.fork_reach.specs.Reach.{is_between, linked_names, parent_names};
@@ -27,18 +26,15 @@ ghost use Rattle.fork_ledger.specs.Taken.{is_taken};
 ghost use Rattle.fork_ledger.specs.Tenants.{at_tenant, private_of, shape_of, with_tenant};
 ghost use Rattle.fork_ledger.specs.Used.{capped};
 
-use crate::arrival::store_fault;
 use crate::checking::check_all;
 use crate::fault::VaultFault;
 use crate::harms::Harms;
 use crate::held::{Held, held_of};
 use crate::leading::{learn_links, read_and_learn};
-use crate::learning::learn;
 use crate::recalling::{RecallFault, recall_known};
 use crate::staging::{stage_all_whole, stage_whole};
 use crate::survey::Survey;
 use crate::sweeping::{collect, sweep};
-use commit_graph::Graph;
 use fork_request::TenantName;
 use git_name::{Hashing, Kind, Name, Sealed};
 use indexmap::IndexSet;
@@ -60,7 +56,6 @@ use std::marker::Model;
 pub struct Vault<S: LooseFiles> {
     files: CachedStore<S>,
     holdings: Holdings,
-    graph: Graph,
 }
 
 impl<S: LooseFiles> Model for Vault<S> {
@@ -68,7 +63,6 @@ impl<S: LooseFiles> Model for Vault<S> {
     ghost use Rattle.object_table.specs.Rows.{places_of};
     ghost use Rattle.fork_ledger.specs.Kept.{IsKept};
     ghost use Rattle.fork_ledger.specs.Led.{AreLed};
-    ghost use Rattle.fork_ledger.specs.Linked.{AreLinked};
     ghost use Rattle.fork_ledger.specs.Shown.{tenants_of};
     ghost use Rattle.fork_ledger.specs.Tenants.{VaultState, vault_code};
 
@@ -82,35 +76,23 @@ impl<S: LooseFiles> Model for Vault<S> {
       honest = a.files.honest;
       failures = a.files.failures;
       places = places_of a.holdings.catalogue;
-      commits = a.graph;
     } };
 
-    ghost invariant = { λ a. IsTrue a.files.honest → IsKept a.holdings.ledgers a.files.contents (places_of a.holdings.catalogue) × AreLinked a.graph a.files.contents × AreLed a.holdings.links a.files.contents };
+    ghost invariant = { λ a. IsTrue a.files.honest → IsKept a.holdings.ledgers a.files.contents (places_of a.holdings.catalogue) × AreLed a.holdings.links a.files.contents };
 }
 
 impl<S: LooseFiles + Drop> Vault<S> {
-    /// A vault over the store of a survey, without tenants. The catalogue has the name of each file, ascending.
-    pub fn over(alloc: Global, survey: Survey<S>) -> Result<Vault<S>, VaultFault>
-        ensures empty { IfOk result (λ vault. vault.tenants ≡ map.empty) }
-        ensures store { IfOk result (λ vault. IsOver survey.contents survey.honest survey.failures vault) }
-        ensures catalogued { IsTrue survey.honest → IfOk result (λ vault. (name : List ℕ) → is_listed vault.places.names name ≡ map.contains_key survey.contents name) }
-        ensures place { IfOk result (λ vault. vault.places.place ≡ 0) }
-        ensures cause { IfErr result (λ fault. (fault ≡ VaultFault.Store) ⊎ (fault ≡ VaultFault.Memory)) }
+    /// A vault over the store of a survey, without tenants. The catalogue has the names of the files, ascending.
+    pub fn over(survey: Survey<S>) -> Vault<S>
+        ensures empty { result.tenants ≡ map.empty }
+        ensures store { IsOver survey.contents survey.honest survey.failures result }
+        ensures names { IsTrue survey.honest → result.places.names ≡ map.keys survey.contents }
+        ensures place { result.places.place ≡ 0 }
     {
-        let mut files = survey.files;
-        let hashing = files.hashing();
-        let names = match files.names(alloc) {
-            Ok(names) => names,
-            Err(fault) => return Err(store_fault(fault)),
-        };
-        let Ok(holdings) = Holdings::over(alloc, hashing, names.as_slice()) else {
-            return Err(VaultFault::Memory);
-        };
-        Ok(Vault {
-            files,
-            holdings,
-            graph: Graph::new(alloc, hashing),
-        })
+        Vault {
+            files: survey.files,
+            holdings: survey.holdings,
+        }
     }
 }
 
@@ -290,71 +272,22 @@ impl<S: LooseFiles> Vault<S> {
         Some(time.saturating_sub(1))
     }
 
-    /// How many commits there are whose parents are known without reading them.
-    pub fn commit_count(&self) -> usize
-        ensures { result ≡ length self.now.commits }
-    {
-        self.graph.len()
-    }
-
-    /// The place among them of a commit that a tenant sees.
-    pub fn commit_place(&self, tenant: &TenantName, commit: Name) -> Option<usize>
-        ensures { result ≡ seen_place (private_of self.now.tenants tenant.now).visible self.now.commits commit }
-    {
-        if self.holdings.sees(tenant, commit) {
-            return self.graph.place(commit);
-        }
-        None
-    }
-
-    /// The commit at a place, if a tenant sees it.
-    pub fn commit_at(&self, tenant: &TenantName, place: usize) -> Option<Name>
-        ensures { result ≡ seen_name (private_of self.now.tenants tenant.now).visible self.now.commits place }
-    {
-        let Some(commit) = self.graph.name(place) else {
-            return None;
-        };
-        if self.holdings.sees(tenant, commit) {
-            return Some(commit);
-        }
-        None
-    }
-
-    /// The places of the parents of the commit at a place, in their order, if a tenant sees the commit.
-    pub fn parent_places(&self, tenant: &TenantName, place: usize) -> &[usize]
-        ensures names { is_some (seen_name (private_of self.now.tenants tenant.now).visible self.now.commits place) ≡ true → map_list (name_at self.now.commits) result.now ≡ parents_at self.now.commits place }
-        ensures before { AllByRecursion (λ parent. parent < place) result.now }
-        ensures hidden { is_some (seen_name (private_of self.now.tenants tenant.now).visible self.now.commits place) ≡ false → result.now ≡ [] }
-    {
-        let Some(_) = self.commit_at(tenant, place) else {
-            return &[];
-        };
-        self.graph.parents(place)
-    }
-
-    /// Comes to know the parents of a commit that a tenant sees, and of those that they lead to. Each is read
-    /// once, and no more once it is known.
-    pub fn learn(
+    /// The names of the best common ancestors of two commits that a tenant sees; `None` if the parents of one of their
+    /// ancestors are not known. It asks no store.
+    pub fn known_bases(
         &mut self,
         alloc: Global,
         tenant: &TenantName,
-        commit: Name,
-    ) -> Result<(), VaultFault>
-        ensures kept { IsTrue self.old.honest → self.new.tenants ≡ self.old.tenants }
-        ensures files { IsTrue self.old.honest → self.new.files ≡ self.old.files }
+        a: Name,
+        b: Name,
+    ) -> Result<Option<IndexSet<Name, Hashing>>, AllocError>
+        ensures same { self.new ≡ self.old }
+        ensures best { IsTrue self.old.honest → IfOk result (λ known. IfSome known (λ best. (name : List ℕ) → contains same_name best name ≡ is_best_of (private_of self.old.tenants tenant.now).visible a b name)) }
 
         // Over any store.
-        ensures hidden { map.contains_key (private_of self.old.tenants tenant.now).visible commit ≡ false → self.new ≡ self.old }
-        ensures silent { map.contains_key (private_of self.old.tenants tenant.now).visible commit ≡ false → IsOk result }
-        ensures shape { shape_of self.new.tenants ≡ shape_of self.old.tenants }
-        ensures store { AsksStore self.old self.new (fault_in result) }
-        ensures places { self.new.places ≡ self.old.places }
-        ensures apart { IfErr result (λ fault. fault ≢ VaultFault.Collision) }
+        ensures seen { IfOk result (λ known. IfSome known (λ best. (name : List ℕ) → contains same_name best name ≡ true → map.contains_key (private_of self.old.tenants tenant.now).visible name ≡ true)) }
     {
-        if !self.holdings.sees(tenant, commit) {
-            return Ok(());
-        }
-        learn(alloc, &mut self.files, &mut self.graph, commit)
+        self.holdings.bases(alloc, tenant, a, b)
     }
 
     /// What is known of the object that a tenant sees or has staged under this name. It does not ask the store.
@@ -561,13 +494,7 @@ impl<S: LooseFiles> Vault<S> {
         ensures store { AsksStore self.old self.new (fault_in result) }
     {
         let _place = self.holdings.place();
-        sweep(
-            alloc,
-            &mut self.files,
-            &mut self.holdings,
-            &mut self.graph,
-            most,
-        )
+        sweep(alloc, &mut self.files, &mut self.holdings, most)
     }
 
     /// Looks at each place of the catalogue, from the first to the last, and removes the files of names that no tenant
@@ -589,7 +516,7 @@ impl<S: LooseFiles> Vault<S> {
         ensures store { AsksStore self.old self.new (fault_in result) }
     {
         sharp_collection();
-        collect(alloc, &mut self.files, &mut self.holdings, &mut self.graph)
+        collect(alloc, &mut self.files, &mut self.holdings)
     }
 
     /// What is wrong with the files of names that some tenant holds. Each file is read once, from the store and not
@@ -649,12 +576,9 @@ impl<S: LooseFiles> Vault<S> {
         ensures place { self.now.places.place ≤ length self.now.places.names }
         ensures distinct { IsDistinct same_name self.now.places.names }
         ensures accounted { IsTrue self.now.honest → IsAccounted self.now }
-        ensures graph { IsGraph self.now.commits }
         ensures one { IsTrue self.now.honest → HoldOne self.now.tenants }
-        ensures parents { IsTrue self.now.honest → (tenant : List ℕ) → AreParents (private_of self.now.tenants tenant).visible self.now.commits }
     {
         let _place = self.holdings.place();
         self.holdings.names_are_distinct();
-        let _count = self.graph.len();
     }
 }

@@ -1,4 +1,4 @@
--- What is offered in a sound world may be taken, if the world has one object of one name.
+-- A tenant may take what is offered in a sound world, if each name has only one object in the world.
 use Rattle.std.proofs.Common.{◌≡◌, ◌⊎◌, ℕ, Bool, true, List, Option, Some, None, refl, sym, ap, subst, ◌∙◌, is_some, inl, inr}
 use Rattle.std.specs.Option.{option_or}
 use Rattle.std.specs.FinMap.{contains_key, entries, get, get-empty, get-entries, values}
@@ -21,7 +21,7 @@ use Rattle.fork_model.proofs.OfferLemmas.{AreAmong, among_joined}
 use Rattle.fork_model.proofs.OfferedLemmas.{given_by_one}
 use Rattle.fork_model.proofs.Rows.{references_kept}
 
--- what a sound offer holds is sound by itself, and its references hold over it
+-- what a sound offer holds is sound by itself, and its references are valid over it
 record IsWhole (offer : Offer) : Type 0 where
   references : AreReferences offer.objects offer.repository.references
   sound : AreSoundObjects offer.objects
@@ -46,7 +46,7 @@ whole objects offer sound reach holds = record {
     rooted reference target points there =
         root_reached (linked_names objects) objects roots target (found_value name_cmp reference target (entries offer.repository.references) (sym (get-entries offer.repository.references reference) ∙ points)) there
 
--- under a name that both hold stands one object
+-- both have the same object under each name that both have
 abbrev pub Match : Objects → Objects → Type 0
 Match objects others = (name : List ℕ) (object same : Object) → get objects name ≡ Some object → get others name ≡ Some same → object ≡ same
 
@@ -103,7 +103,7 @@ module _ (world : World) (tenant : List ℕ) (view : View) (sound : IsSoundWorld
       let all = whole given.view.objects offer (record { named = right.named; right = right.right; closed = right.closed }) reach may.references in
       both_sound view.objects offer.objects (offer_match world tenant key.0 view given.view offer alike here given.there reach) (record { named = own.named; right = own.right; closed = own.closed }) all.sound
 
--- who is offered nothing may take it all
+-- a tenant that is offered nothing may take all of it
 nothing_there : (tenant : List ℕ) (key : Pair) (offer : Offer) → get (nothing_offered tenant).offered key ≡ Some offer → ⊥
 nothing_there tenant key offer is = (let none = get-empty {X = Offer} pair_cmp key in let no : ⊥ = cc in no)
 

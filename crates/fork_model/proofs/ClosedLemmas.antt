@@ -20,7 +20,7 @@ use Rattle.fork_reach.specs.Reach.{links_of_found}
 use Rattle.fork_push.specs.Push.{links_under, same_kind, has_kind, is_wrong}
 use Rattle.fork_model.specs.Sound.{AreRight, IsClosed, IsMet}
 
--- what holds of all of a list holds of its front and of what is behind it
+-- what holds of all elements of a list holds of those of its front and of its rest
 front_of : {A : Type 0} (P : A → Type 0) (xs ys : List A) → AllByRecursion P (xs ++ ys) → AllByRecursion P xs
 front_of P [] ys all = tt
 front_of P (x ∷ xs) ys all = (all.0, front_of P xs ys all.1)
@@ -29,23 +29,23 @@ rest_of : {A : Type 0} (P : A → Type 0) (xs ys : List A) → AllByRecursion P 
 rest_of P [] ys all = all
 rest_of P (x ∷ xs) ys all = rest_of P xs ys all.1
 
--- and what holds of all of both holds of all
+-- and what holds of all elements of both holds of all elements of the list
 pub joined : {A : Type 0} (P : A → Type 0) (xs ys : List A) → AllByRecursion P xs → AllByRecursion P ys → AllByRecursion P (xs ++ ys)
 joined P [] ys front rest = rest
 joined P (x ∷ xs) ys front rest = (front.0, joined P xs ys front.1 rest)
 
--- and of each
+-- and of each element
 pub each_of : {A : Type 0} (P : A → Type 0) (xs : List A) (x : A) → AllByRecursion P xs → Contains xs x → P x
 each_of P [] x all at = absurd (omega arith)
 each_of P (first ∷ xs) x all (zero, few, is) = subst P is all.0
 each_of P (first ∷ xs) x all (suc k, few, is) = each_of P xs x all.1 (k, omega arith, is)
 
--- a weaker fact holds of all too
+-- and so does a weaker fact
 pub each_weaker : {A : Type 0} (P Q : A → Type 0) (xs : List A) → ((x : A) → P x → Q x) → AllByRecursion P xs → AllByRecursion Q xs
 each_weaker P Q [] weaker all = tt
 each_weaker P Q (x ∷ xs) weaker all = (weaker x all.0, each_weaker P Q xs weaker all.1)
 
--- an object that is found beside one that came was there before, or stands under the name of that one
+-- an object that is found once another was added was there before, or is under the name of the added one
 pub of_one : (objects : Objects) (more : Object) (name : List ℕ) (object : Object) → get (with_object objects more) name ≡ Some object
     → (get objects name ≡ Some object) ⊎ ((object_name more ≡ name) × (more ≡ object))
 of_one objects more name object = by (contains_key objects (object_name more))
@@ -58,7 +58,7 @@ of_one objects more name object = by (contains_key objects (object_name more))
           | inr there ↦ inl there
         ]
 
--- the same of several that came: what holds of their names holds of its name
+-- after several objects are added: what holds of all their names holds of this name
 pub of_both : (Q : List ℕ → Type 0) (objects : Objects) (sent : List Object) (name : List ℕ) (object : Object) → AllByRecursion Q (map object_name sent)
     → get (with_objects objects sent) name ≡ Some object → (get objects name ≡ Some object) ⊎ Q name
 of_both Q objects [] name object all is = inl is
@@ -71,7 +71,7 @@ of_both Q objects (more ∷ sent) name object all is =
       | inr named ↦ inr named
     ]
 
--- and what holds of each that was there and of each that came holds of all
+-- and what holds of each object that was there and of each that was added holds of all
 pub each_of_both : (P : Object → Type 0) (objects : Objects) (sent : List Object)
     → ((name : List ℕ) (object : Object) → get objects name ≡ Some object → P object) → AllByRecursion P sent
     → (name : List ℕ) (object : Object) → get (with_objects objects sent) name ≡ Some object → P object
@@ -85,7 +85,7 @@ each_of_both P objects (more ∷ sent) there all name object is = each_of_both P
           | inr came ↦ subst P came.1 all.0
         ]
 
--- objects of their grammars beside others
+-- objects in their grammars, added to others
 pub right_both : (objects : Objects) (sent : List Object) → AreRight objects → AreObjects sent → AreRight (with_objects objects sent)
 right_both objects sent right are = each_of_both (λ object. object_in object.kind object.bytes ≢ None) objects sent right are
 
@@ -115,7 +115,7 @@ not_false : (b : Bool) → not b ≡ false → b ≡ true
 not_false true is = refl
 not_false false is = absurd (cc)
 
--- where no link is wrong, each is met
+-- if no link is wrong, each is met
 pub all_met : (both : Objects) (links : List Link) → find (is_wrong both) links ≡ None → AllByRecursion (IsMet both) links
 all_met both [] none = tt
 all_met both (link ∷ links) none = by (is_wrong both link) refl none (λ others. all_met both links others)
@@ -135,11 +135,11 @@ kind_there : (o : Option Object) (kind : Kind) → option_map (λ object. object
 kind_there None kind is = absurd (cc)
 kind_there (Some object) kind is = refl
 
--- a link that is met stays met where objects come
+-- a link that is met stays met when objects are added
 met_still : (objects : Objects) (sent : List Object) (link : Link) → IsMet objects link → IsMet (with_objects objects sent) link
 met_still objects sent link met = ap (λ o. option_map (λ object. object.kind) o) (kept_all objects sent link.name (kind_there (get objects link.name) link.kind met)) ∙ met
 
--- objects whose links are met beside closed ones
+-- objects whose links are met, added to closed ones
 pub closed_both : (objects : Objects) (sent : List Object) → IsClosed objects
     → find (is_wrong (with_objects objects sent)) (links_under (with_objects objects sent) (map object_name sent)) ≡ None → IsClosed (with_objects objects sent)
 closed_both objects sent closed none name object is =

@@ -27,7 +27,7 @@ use Rattle.fork_model.proofs.OfferLemmas.{apart_pairs, tied_pairs}
 use Rattle.fork_model.proofs.OfferedLemmas.{get_offered, met_still}
 use Rattle.fork_model.proofs.SoundLemmas.{made_answer}
 
--- what a tenant meets behind what happened, where it met this before
+-- what a tenant meets after what happened, if it met this before
 abbrev pub met_behind : Context → List Happening → Context
 met_behind context [] = context
 met_behind context (Asked ask ∷ more) = met_behind context more
@@ -41,7 +41,7 @@ by_key offers key other None = get-remove pair_total offers key other
 pair_itself : (key : Pair) → eq_by_cmp pair_cmp key key ≡ true
 pair_itself key = ap is_eq (tied_itself pair_total key)
 
--- offers that differ under one key alone are those with the change there
+-- offers that differ only under one key are those with the change there
 changed_there : (old new : Offers) (key : Pair) → ((other : Pair) → other ≢ key → get new other ≡ get old other) → new ≡ with_change old key (get new key)
 changed_there old new key same = same_map pair_total pair_exact new (with_change old key (get new key)) (λ other. by other (eq_by_cmp pair_cmp other key) refl ∙ sym (by_key old key other (get new key)))
   where
@@ -101,11 +101,11 @@ dealt_step tenant old new giver ask reply (Answered view here told set) deals =
 dealt_step tenant old new giver ask reply (Unknown none told stays) deals = absurd (let done = done_where_dealt tenant giver ask reply deals in let no : ⊥ = cc (sym (ap is_done told) ∙ done) in no)
 dealt_step tenant old new giver ask reply (Faulted bad stays) deals = absurd (failed_undone reply bad (done_where_dealt tenant giver ask reply deals))
 
--- what a step leaves of what a tenant is offered: all, where it does not deal with that one
+-- a step leaves all that a tenant is offered, if it does not deal with the tenant
 pub offered_still : (tenant : List ℕ) (old new : World) (event : Event) (reply : Reply) → Steps old event reply new → deals_with tenant event reply ≡ false → offered_to new tenant ≡ offered_to old tenant
 offered_still tenant old new event reply step leaves = ap (λ (context : Context). context.offered) (met_still tenant old new event reply step leaves)
 
--- and else all under other keys than the one that its request names
+-- otherwise it leaves what is under other keys than the one that its request names
 pub offered_elsewhere : (tenant giver : List ℕ) (old new : World) (ask : Ask) (reply : Reply) (key : Pair) → Steps old (Asks giver ask) reply new → key ≢ (giver, word_of ask) → get (offered_to new tenant) key ≡ get (offered_to old tenant) key
 offered_elsewhere tenant giver old new ask reply key step apart = by (deals_with tenant (Asks giver ask) reply) refl
   where
@@ -129,7 +129,7 @@ other_name a b apart = by (eq_by_cmp name_cmp a b) refl
 pub other_view : (old new : World) (tenant other : List ℕ) (ask : Ask) (reply : Reply) → Steps old (Asks tenant ask) reply new → other ≢ tenant → get new other ≡ get old other
 other_view old new tenant other ask reply step apart = other_step name_cmp name_total met_by answer (Refused UnknownTenant) is_host_fault HostSays old new other tenant ask reply (other_name other tenant apart) step
 
--- what is met behind a step, by whether it deals with the tenant
+-- what is met after a step, by whether it deals with the tenant
 changed_step : (A : Type 0) (go : Context → List Happening → A) → ((context : Context) (key : Pair) (o : Option Offer) (more : List Happening) → go context (Changes key o ∷ more) ≡ go (record context { offered = with_change context.offered key o }) more)
     → (tenant : List ℕ) (old mid : World) (giver : List ℕ) (ask : Ask) (reply : Reply) (more : List Happening) → Steps old (Asks giver ask) reply mid
     → go (met_by old tenant) (change_in tenant giver ask reply mid ++ more) ≡ go (met_by mid tenant) more
@@ -150,7 +150,7 @@ asked_first t old u ask rest behind same = by (eq_by_cmp name_cmp t u) refl
     by false apart = same
     by true tied = λ i. (met_by old (sym (name_exact t u (is_equal (name_cmp t u) tied)) i), ask) ∷ same i
 
--- what happens settles what is met
+-- what happens determines what is met
 pub met_by_happenings : (t : List ℕ) (old new : World) (steps : List Event) (replies : List Reply) (run : Explains old steps replies new) → met t old steps replies new run ≡ met_along (met_by old t) (happenings t old steps replies new run)
 met_by_happenings t old new [] [] run = refl
 met_by_happenings t old new [] (reply ∷ replies) run = absurd run

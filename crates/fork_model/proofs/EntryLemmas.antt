@@ -30,7 +30,7 @@ module _ {K : Type 0} {R : K → K → Ordering} (total : IsTotalOrder R) (exact
       by true same = absurd (not_less lower (ap (R lower) (sym (exact key lower (is_equal _ same))) ∙ below))
       by false apart = refl
 
-  -- what is found under keys above the first is found behind it
+  -- what is found under a key above the first is found after the first
   behind_first : {X : Type 0} (first : K × X) (es fs : List (K × X)) → AllByRecursion (λ key. R first.0 key ≡ Less) (map (λ e. e.0) fs)
       → AllByRecursion (λ e. find R e.0 es ≡ Some e.1) fs → AllByRecursion (λ e. find R e.0 (first ∷ es) ≡ Some e.1) fs
   behind_first first es [] above found = tt

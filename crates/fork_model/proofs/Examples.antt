@@ -1,4 +1,4 @@
--- What some requests send, and what a clone needs, by the definitions.
+-- Examples that the definitions give: what some requests send, and what a clone needs.
 use Rattle.std.proofs.Common.{◌≡◌, ℕ, List, [], ◌∷◌, None, Some, ap, arith, codes, refl, sym, ◌∙◌}
 use Rattle.std.specs.FinMap.{empty, get, get-empty}
 use Rattle.git_name.specs.Name.{name_cmp}
@@ -15,7 +15,7 @@ use Rattle.fork_model.specs.View.{View}
 use Rattle.fork_model.specs.World.{Exchange}
 use Rattle.fork_model.proofs.PrerequisiteLemmas.{prerequisites}
 
--- parts stand in their order, and requests may stand between that are no end, or met a host fault
+-- parts are in their order, and between them may be requests that are no end or that met a host fault
 parts_are_in_order : AreParts ((SendsPart (codes "a"), Done []) ∷ (DropsParts, Failed Memory) ∷ (SendsPart (codes "b"), Done []) ∷ (EndsParts (codes "r"), Done []) ∷ []) (codes "a" ∷ codes "b" ∷ [])
 parts_are_in_order = record {
   during = (SendsPart (codes "a"), Done []) ∷ (DropsParts, Failed Memory) ∷ (SendsPart (codes "b"), Done []) ∷ [];
@@ -26,7 +26,7 @@ parts_are_in_order = record {
   whole = refl;
 }
 
--- a prune shows nothing that was not seen
+-- after a prune nothing is seen that was not seen before
 a_prune_sends_nothing : (context : Context) (view : View) (reply : Reply) (name : List ℕ) (object : Object) → IsFrom context view (Prunes, reply) name object → get view.objects name ≡ Some object
 a_prune_sends_nothing context view reply name object (Seen is) = is
 a_prune_sends_nothing context view reply name object (Pushed repository body asked among) = (let same : Prunes ≡ Pushes repository body = ap (λ (x : Exchange). x.0) asked in absurd (cc))
@@ -39,7 +39,7 @@ none_absent object is = cc
 absent : (name : List ℕ) (object : Object) → get (empty {X = Object} {R = name_cmp}) name ≡ Some object → ⊥
 absent name object is = none_absent object (sym (get-empty {X = Object} name_cmp name) ∙ is)
 
--- who excludes nothing needs nothing, as in a clone
+-- a tenant that excludes nothing needs nothing, as in a clone
 a_clone_needs_nothing : (sender : Objects) → HasPrerequisites (empty {X = Object} {R = name_cmp}) sender []
 a_clone_needs_nothing sender =
     prerequisites empty sender [] (λ name object is. absurd (absent name object is)) (λ name object other here is. absurd (absent name other is)) (λ name at there. absurd (omega arith))

@@ -20,7 +20,7 @@ use Rattle.fork_model.specs.Transfer.{AreSendable, HasPrerequisites, received, w
 use Rattle.fork_model.specs.View.{View}
 use Rattle.fork_model.proofs.TakenLemmas.{fetched_pushed}
 
--- data that is told behind two refusals
+-- data that is returned after two refusals were ruled out
 told_behind : (view : View) (plain many : Bool) (word : List ℕ) (reply : Reply) (text : List ℕ)
     → (cond {A = Reply × View} plain (cond many (Refused TooMany) reply, view) (Refused (BadName word), view)).0 ≡ Done text → reply ≡ Done text
 told_behind view true true word reply text is = absurd (cc)
@@ -40,7 +40,7 @@ fetched_text context view word items repository selection text there chosen is =
     let found = ap (told_over word (λ repository. fetch_told view.objects repository items)) there ∙ ap (λ sides. reply_of (fetched_of view.objects sides)) chosen in
     same_text (fetched view.objects selection.wanted selection.excluded) text (sym found ∙ said)
 
--- a push into a repository that is there, where no upload is open
+-- a push into an existing repository, while no upload is open
 push_answered : (context : Context) (view : View) (word body : List ℕ) (old : Repository) → IsOrderly view → get view.repositories word ≡ Some old → view.upload ≡ None
     → answer context view (Pushes word body) ≡ pushed view word old (finished (stream_of body))
 unfolding answer push_answer
@@ -49,7 +49,7 @@ push_answered context view word body old orderly there none =
     ∙ ap (push_into view word body) there
     ∙ ap (λ o. cond {A = Reply × View} (is_some o) (Refused UploadOpen, view) (pushed view word old (finished (stream_of body)))) none
 
--- what a fetch tells, a push takes
+-- a push takes what a fetch returns
 pub fetch_pushed : (context other : Context) (receiver sender : View) (source word : List ℕ) (items : List (List ℕ)) (repository old : Repository) (selection : Selection) (text : List ℕ)
     → IsRight sender → AreSendable sender.objects → IsOrderly receiver
     → get sender.repositories source ≡ Some repository → selected (object_of_item sender.objects repository) items ≡ Ok selection

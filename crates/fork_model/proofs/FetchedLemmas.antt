@@ -39,7 +39,7 @@ pub fetched_records : (objects : Objects) (wanted excluded : List (List ℕ)) �
 unfolding fetched
 fetched_records objects wanted excluded = records_kept objects _
 
--- and behind an empty line they are a stream
+-- and after an empty line they are a stream
 pub fetched_flow : (objects : Objects) (wanted excluded : List (List ℕ)) → AreRight objects → AreSendable objects
     → stream_of (10 ∷ fetched objects wanted excluded) ≡ Flows [] (fetched_objects objects wanted excluded) true []
 fetched_flow objects wanted excluded right sendable =

@@ -1,4 +1,4 @@
--- Requests about HEAD that are written out, by the definitions.
+-- Example requests about HEAD, answered by the definitions.
 use Rattle.std.proofs.Common.{◌≡◌, ℕ, true, false, cond, List, [], ◌∷◌, ◌++◌, Option, None, Some, Ok, refl, ap, ◌∙◌, codes, sym}
 use Rattle.std.specs.FinMap.{empty, get, get-empty, get-insert, insert}
 use Rattle.hex.specs.Hex.{encode_lower}
@@ -51,7 +51,7 @@ over repository row =
     ap (λ b. cond {A = Reply × View} b (row (get (having repository).repositories (codes "r"))) (Refused (BadName (codes "r")), having repository)) plain
     ∙ ap row (get-insert name_total empty (codes "r") repository (codes "r"))
 
--- and over one that is not there
+-- and over one that does not exist
 absent : (repository : Repository) → get (having repository).repositories (codes "s") ≡ None
 absent repository = get-insert name_total empty (codes "r") repository (codes "s") ∙ get-empty {X = Repository} name_cmp (codes "s")
 
@@ -64,7 +64,7 @@ a_new_repository_has_head_main =
     over new_repository (λ o. (told_over (codes "r") (λ repository. Ok (head_told repository)) o, having new_repository))
     ∙ ap (λ o. (Done (head_line main_branch o), having new_repository)) no_branch
 
--- a repository whose HEAD is main, which is there
+-- a repository whose HEAD is main, and main exists
 abbrev with_main : References → Repository
 with_main references = record { head = main_branch; references = references }
 
@@ -75,14 +75,14 @@ a_branch_that_is_there_is_told_with_its_target references target there =
     over (with_main references) (λ o. (told_over (codes "r") (λ repository. Ok (head_told repository)) o, having (with_main references)))
     ∙ ap (λ o. (Done (head_line main_branch o), having (with_main references))) there
 
--- before a push `HEAD` is no reference, and is told so
+-- before a push `HEAD` is no reference, and the reply says so
 a_head_before_a_push_is_no_reference : answer anyone (having new_repository) (AsksRevisions (codes "r") (codes "HEAD" ∷ [])) ≡ (Refused (NoRef (codes "HEAD")), having new_repository)
 unfolding answer rev_list_answer revisions_told name_in
 a_head_before_a_push_is_no_reference =
     over new_repository (λ o. (few_items (codes "HEAD" ∷ []) (told_over (codes "r") (λ repository. revisions_told nothing repository (codes "HEAD" ∷ [])) o), having new_repository))
     ∙ ap (λ o. (reply_of (revisions_of nothing (with_item false (commit_behind nothing (found_name nothing (codes "HEAD") o)) (selected (commit_of_item nothing new_repository) []))), having new_repository)) no_branch
 
--- behind one `HEAD` and its branch are told alike, on either side
+-- after one, `HEAD` and its branch are read alike, on either side
 a_head_behind_a_push_is_its_branch : (objects : Objects) (references : References) (target : List ℕ) → get references main_branch ≡ Some target
     → commit_of_item objects (with_main references) (codes "HEAD") ≡ commit_of_item objects (with_main references) main_branch
 unfolding name_in

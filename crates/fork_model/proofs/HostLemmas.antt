@@ -22,7 +22,7 @@ pub same_world : (old new : World) (request : HostRequest) (reply : Reply) → S
 same_world old new request reply (HostAnswered says stays) = stays
 same_world old new request reply (HostFaulted bad stays) = stays
 
--- what may be told of a request that is not bad is data
+-- what is reported for a request that is not bad is data
 told_done : (world : World) (request : HostRequest) (reply : Reply) → HostSays world request reply → request ≢ Bad → is_done reply ≡ true
 told_done world (Sweep most) reply says good = ap is_done says.2
 told_done world Collect reply says good = ap is_done says.1

@@ -1,4 +1,4 @@
--- A host's tenants, kept as entries by name: the effect of a lookup and a write on the world that they show.
+-- A host's tenants as entries by name: what a look-up and a write do to their world.
 use Rattle.std.proofs.Common.{◌≡◌, ℕ, cond, List, ◌∷◌, [], ◌++◌, Some, None, refl, ◌∙◌, sym, ap, length}
 use Rattle.std.specs.List.Sorted.{IsStrictlySortedBy}
 use Rattle.std.specs.Map.{lookup, keys_of}
@@ -37,15 +37,15 @@ pub run_more : (old mid new : World) (steps : List Event) (replies : List Reply)
 run_more old mid new steps replies step reply run more =
     explains_more name_cmp name_total name_exact met_by answer (Refused UnknownTenant) is_host_fault HostSays old mid new steps replies step reply run more
 
--- the world has a tenant's view where the entries have it
+-- the world has the view of a tenant that the entries have
 pub get_is : (w : World) (es : List (List ℕ × View)) (t : List ℕ) → from_entries es ≡ w → get w t ≡ lookup (is_at (name_cmp t)) es
 get_is w es t is = ap (λ v. get v t) (sym is) ∙ get_of_entries name_total es t
 
--- the world that another value at one name makes
+-- the world after another value is set under one name
 pub insert_is : (old : World) (es fs : List (List ℕ × View)) (t : List ℕ) (view : View) → from_entries es ≡ old
     → ((q : List ℕ) → lookup (is_at (name_cmp q)) fs ≡ cond (is_at (name_cmp t) q) (Some view) (lookup (is_at (name_cmp q)) es)) → from_entries fs ≡ insert old t view
 insert_is old es fs t view is set = entries_after_insert name_total name_exact es fs t view set ∙ ap (λ w. insert w t view) is
 
--- the world has as many tenants
+-- the world has as many tenants as there are entries
 pub len_is : (w : World) (es : List (List ℕ × View)) → from_entries es ≡ w → IsStrictlySortedBy name_cmp (keys_of es) → len w ≡ length es
 len_is w es is sorted = ap len (sym is) ∙ (len-entries (from_entries es) ∙ ap length (entries_of_ordered name_total es sorted))

@@ -28,7 +28,7 @@ module _ {View Context Ask Reply : Type 0} (answer : Context → View → Ask �
   seen_once None met = (unknown, None)
   seen_once (Some view) met = ((answer met.0 view met.1).0, Some (answer met.0 view met.1).1)
 
-  -- what such a tenant is told, and its view in the end
+  -- the replies to such a tenant, and its view in the end
   abbrev pub seen : Option View → List (Context × Ask) → List Reply × Option View
   seen o [] = ([], o)
   seen o (met ∷ more) =
@@ -47,7 +47,7 @@ module _ {Tenant View Context Ask HostAsk Reply : Type 0} (cmp : Tenant → Tena
   pub tied : (w : FinMap cmp View) (t u : Tenant) → eq_by_cmp cmp t u ≡ true → get w t ≡ get w u
   tied w t u same = sym (get_tied total w t u (is_equal _ same))
 
-  -- what a step without a host fault tells its own tenant, and leaves it
+  -- the reply of a step without a host fault to its own tenant, and the view that it leaves
   own_step : (old new : FinMap cmp View) (t u : Tenant) (ask : Ask) (reply : Reply) → eq_by_cmp cmp t u ≡ true → is_fault reply ≡ false → TenantStep cmp meets answer unknown is_fault old u ask reply new → (reply ≡ (seen_once answer unknown (get old t) (meets old u, ask)).0) × (get new t ≡ (seen_once answer unknown (get old t) (meets old u, ask)).1)
   own_step old new t u ask reply same fine (Answered view here told set) =
       rw (tied old t u same ∙ here) (told, ap (λ w. get w t) set ∙ (get-insert total old u _ t ∙ ap (λ b. cond b (Some (answer (meets old u) view ask).1) (get old t)) same))
@@ -66,7 +66,7 @@ module _ {Tenant View Context Ask HostAsk Reply : Type 0} (cmp : Tenant → Tena
   own_request old new ask reply (HostAnswered says stays) = stays
   own_request old new ask reply (HostFaulted bad stays) = stays
 
-  -- a run tells each tenant, and leaves it, what it would in a host of its own that meets the same
+  -- a run gives each tenant the replies and the view that a host of its own would, if that meets the same
   pub run_seen : (t : Tenant) (old new : FinMap cmp View) (steps : List (Event Tenant Ask HostAsk)) (replies : List Reply) (run : Explains cmp meets answer unknown is_fault HostSays old steps replies new) → AreFine is_fault (told cmp t steps replies) → IsPrivate answer unknown (get old t) (met cmp meets answer unknown is_fault HostSays t old steps replies new run) (told cmp t steps replies) (get new t)
   run_seen t old new [] [] run fine = (refl, ap (λ w. get w t) run)
   run_seen t old new [] (reply ∷ replies) run fine = absurd run
@@ -88,7 +88,7 @@ module _ {Tenant View Context Ask HostAsk Reply : Type 0} (cmp : Tenant → Tena
           let more = subst (λ o. IsPrivate answer unknown o behind (told cmp t steps replies) (get new t)) here.1 (rest fine.1) in
           (ap (λ s. s ∷ told cmp t steps replies) here.0 ∙ ap (λ ss. (seen_once answer unknown (get old t) (meets old u, ask)).0 ∷ ss) more.0, more.1)
 
-  -- the same at a tenant of the world
+  -- for a tenant that the world has
   pub run_met : (t : Tenant) (old new : FinMap cmp View) (steps : List (Event Tenant Ask HostAsk)) (replies : List Reply) (view : View) (run : Explains cmp meets answer unknown is_fault HostSays old steps replies new) → AreFine is_fault (told cmp t steps replies) → get old t ≡ Some view → (told cmp t steps replies ≡ (alone answer view (met cmp meets answer unknown is_fault HostSays t old steps replies new run)).0) × (get new t ≡ Some (alone answer view (met cmp meets answer unknown is_fault HostSays t old steps replies new run)).1)
   run_met t old new steps replies view run fine here =
       let all = run_seen t old new steps replies run fine in
@@ -105,7 +105,7 @@ module _ {Tenant View Context Ask HostAsk Reply : Type 0} (cmp : Tenant → Tena
       let joined : seen answer unknown (get old t) (met cmp meets answer unknown is_fault HostSays t old steps replies new run) ≡ seen answer unknown (get old2 t) (met cmp meets answer unknown is_fault HostSays t old2 steps2 replies2 new2 run2) = λ i. seen answer unknown (agree i) (same i) in
       (one.0 ∙ (ap (λ (p : List Reply × Option View). p.0) joined ∙ sym two.0), one.1 ∙ (ap (λ (p : List Reply × Option View). p.1) joined ∙ sym two.1))
 
-  -- what no step of a run changes for a tenant, it meets beside each request
+  -- what no step of a run changes for a tenant, the tenant meets with each request
   abbrev pub StaysFor : Tenant → (old : FinMap cmp View) (steps : List (Event Tenant Ask HostAsk)) (replies : List Reply) (new : FinMap cmp View) → Explains cmp meets answer unknown is_fault HostSays old steps replies new → Type 0
   StaysFor t old [] [] new run = ⊤
   StaysFor t old [] (reply ∷ replies) new run = ⊤
@@ -130,7 +130,7 @@ module _ {Tenant View Context Ask HostAsk Reply : Type 0} (cmp : Tenant → Tena
           let here : meets old u ≡ context = ap (λ k. meets old k) (sym (exact t u (is_equal _ tied))) ∙ is in
           ap (λ c. (c, ask) ∷ behind) here ∙ ap (λ asked. (context, ask) ∷ asked) rest
 
-  -- where no answer is a host fault, what a step leaves is settled by its reply
+  -- if no answer is a host fault, the reply to a step determines the world that it leaves
   one_left : ((context : Context) (view : View) (ask : Ask) → is_fault (answer context view ask).0 ≡ false) → is_fault unknown ≡ false
       → (old new new2 : FinMap cmp View) (step : Event Tenant Ask HostAsk) (reply : Reply) → Steps cmp meets answer unknown is_fault HostSays old step reply new → Steps cmp meets answer unknown is_fault HostSays old step reply new2 → new ≡ new2
   one_left fine known old new new2 (HostAsks ask) reply one two = own_request old new ask reply one ∙ sym (own_request old new2 ask reply two)
@@ -146,13 +146,13 @@ module _ {Tenant View Context Ask HostAsk Reply : Type 0} (cmp : Tenant → Tena
   one_left fine known old new new2 (Asks u ask) reply (Faulted bad stays) (Unknown none told stays2) = stays ∙ sym stays2
   one_left fine known old new new2 (Asks u ask) reply (Faulted bad stays) (Faulted bad2 stays2) = stays ∙ sym stays2
 
-  -- also where the first worlds are two that are equal
+  -- also from two first worlds that are equal
   pub one_next : ((context : Context) (view : View) (ask : Ask) → is_fault (answer context view ask).0 ≡ false) → is_fault unknown ≡ false
       → (old old2 new new2 : FinMap cmp View) (step : Event Tenant Ask HostAsk) (reply : Reply) → old ≡ old2 → Steps cmp meets answer unknown is_fault HostSays old step reply new → Steps cmp meets answer unknown is_fault HostSays old2 step reply new2 → new ≡ new2
   one_next fine known old old2 new new2 step reply same one two =
       one_left fine known old new new2 step reply one (subst (λ w. Steps cmp meets answer unknown is_fault HostSays w step reply new2) (sym same) two)
 
-  -- so the last world is settled by the first one, the steps and the replies
+  -- so the first world, the steps and the replies determine the last world
   pub one_last : ((context : Context) (view : View) (ask : Ask) → is_fault (answer context view ask).0 ≡ false) → is_fault unknown ≡ false
       → (old old2 new new2 : FinMap cmp View) (steps : List (Event Tenant Ask HostAsk)) (replies : List Reply) → old ≡ old2 → Explains cmp meets answer unknown is_fault HostSays old steps replies new → Explains cmp meets answer unknown is_fault HostSays old2 steps replies new2 → new ≡ new2
   one_last fine known old old2 new new2 [] [] same run run2 = run ∙ (same ∙ sym run2)
@@ -161,7 +161,7 @@ module _ {Tenant View Context Ask HostAsk Reply : Type 0} (cmp : Tenant → Tena
   one_last fine known old old2 new new2 (step ∷ steps) (reply ∷ replies) same run run2 =
       one_last fine known run.0 run2.0 new new2 steps replies (one_next fine known old old2 run.0 run2.0 step reply same run.1 run2.1) run.2 run2.2
 
-  -- and so is what a tenant meets along the run, whatever worlds lie between
+  -- and what a tenant meets along the run, whatever worlds are in between
   pub one_met : ((context : Context) (view : View) (ask : Ask) → is_fault (answer context view ask).0 ≡ false) → is_fault unknown ≡ false
       → (t : Tenant) (old old2 new new2 : FinMap cmp View) (steps : List (Event Tenant Ask HostAsk)) (replies : List Reply) → old ≡ old2 → (run : Explains cmp meets answer unknown is_fault HostSays old steps replies new) (run2 : Explains cmp meets answer unknown is_fault HostSays old2 steps replies new2) → met cmp meets answer unknown is_fault HostSays t old steps replies new run ≡ met cmp meets answer unknown is_fault HostSays t old2 steps replies new2 run2
   one_met fine known t old old2 new new2 [] [] same run run2 = refl

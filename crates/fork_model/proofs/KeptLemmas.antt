@@ -1,4 +1,4 @@
--- If objects are kept that links lead to, those kept are as right as all of them were.
+-- If the kept objects include all that their links lead to, they are as right as all objects were.
 use Rattle.std.proofs.Common.{◌≡◌, ℕ, ◌+◌, ◌≤◌, Bool, true, false, cond, List, [], ◌∷◌, ◌++◌, Option, Some, None, refl, sym, ap, subst, ◌∙◌, arith, is_some, zero, suc}
 use Rattle.std.specs.Prelude.{map, sum_by, Contains}
 use Rattle.std.specs.List.{AllByRecursion, filter, flat_map}
@@ -24,7 +24,7 @@ use Rattle.fork_model.specs.Offer.{Offer, Offers, Pair, pair_cmp}
 use Rattle.fork_model.specs.Sound.{AreReferences, AreRight, IsClosed, IsMet}
 use Rattle.fork_model.specs.View.{Repositories, View}
 
--- a look-up among the objects of which the names pass a test
+-- a look-up among the objects whose names pass a test
 pub kept_at : (objects : Objects) (kept : List ℕ → Bool) (name : List ℕ) → get (retain_keys objects kept) name ≡ cond (kept name) (get objects name) None
 kept_at objects kept name = get-retain_keys objects kept name (λ other same. ap kept (sym (name_exact name other same)))
 
@@ -44,7 +44,7 @@ named_kept objects kept named name object is = named name object (found_kept obj
 pub right_kept : (objects : Objects) (kept : List ℕ → Bool) → AreRight objects → AreRight (retain_keys objects kept)
 right_kept objects kept right name object is = right name object (found_kept objects kept name object is).1
 
--- in a list
+-- the head of a list is in it
 pub here : {A : Type 0} (x : A) (xs : List A) → Contains (x ∷ xs) x
 here x xs = (0, omega arith, refl)
 
@@ -74,7 +74,7 @@ among f x y [] at is = absurd (omega arith)
 among f x y (z ∷ xs) (zero, few, same) is = in_front y (f z) (flat_map f xs) (subst (λ w. Contains (f w) y) (sym same) is)
 among f x y (z ∷ xs) (suc k, few, same) is = behind y (f z) (flat_map f xs) (among f x y xs (k, omega arith, same) is)
 
--- where a reference points is among the targets
+-- the target of a repository's reference is among the targets
 pub target_among : (repositories : Repositories) (word : List ℕ) (repository : Repository) (reference target : List ℕ)
     → get repositories word ≡ Some repository → get repository.references reference ≡ Some target → Contains (targets_of repositories) target
 target_among repositories word repository reference target there_is points =
@@ -82,7 +82,7 @@ target_among repositories word repository reference target there_is points =
     (found_value name_cmp word repository (entries repositories) (sym (get-entries repositories word) ∙ there_is))
     (found_value name_cmp reference target (entries repository.references) (sym (get-entries repository.references reference) ∙ points))
 
--- and where one of an offer points
+-- and so is the target of an offer's reference
 pub target_made : (made : Offers) (key : Pair) (offer : Offer) (reference target : List ℕ)
     → get made key ≡ Some offer → get offer.repository.references reference ≡ Some target → Contains (targets_made made) target
 target_made made key offer reference target there_is points =
@@ -90,7 +90,7 @@ target_made made key offer reference target there_is points =
     (found_value pair_cmp key offer (entries made) (sym (get-entries made key) ∙ there_is))
     (found_value name_cmp reference target (entries offer.repository.references) (sym (get-entries offer.repository.references reference) ∙ points))
 
--- both are where what is kept begins
+-- both are among the roots
 pub target_rooted : (view : View) (word : List ℕ) (repository : Repository) (reference target : List ℕ)
     → get view.repositories word ≡ Some repository → get repository.references reference ≡ Some target → Contains (roots_of view) target
 target_rooted view word repository reference target there_is points = in_front target (targets_of view.repositories) (targets_made view.made) (target_among view.repositories word repository reference target there_is points)
@@ -103,13 +103,13 @@ pub kind_there : (o : Option Object) (kind : _) → option_map (λ object. objec
 kind_there None kind is = absurd (cc)
 kind_there (Some object) kind is = refl
 
--- what a link names is there, where the links are met
+-- what a met link names exists
 pub there_by_link : (objects : Objects) (links : List Link) (name : List ℕ) → AllByRecursion (IsMet objects) links → Contains (map (λ link. link.name) links) name → contains_key objects name ≡ true
 there_by_link objects [] name met at = absurd (omega arith)
 there_by_link objects (link ∷ links) name met (zero, few, is) = subst (λ n. contains_key objects n ≡ true) is (kind_there (get objects link.name) link.kind met.0)
 there_by_link objects (link ∷ links) name met (suc k, few, is) = there_by_link objects links name met.1 (k, omega arith, is)
 
--- links that are met stay met where what they name is found as before
+-- links that are met stay met if what they name is found as before
 pub met_alike : (objects others : Objects) (links : List Link)
     → ((name : List ℕ) → Contains (map (λ link. link.name) links) name → contains_key objects name ≡ true → get others name ≡ get objects name)
     → AllByRecursion (IsMet objects) links → AllByRecursion (IsMet others) links
@@ -120,7 +120,7 @@ met_alike objects others (link ∷ links) alike all =
       met_alike objects others links (λ name at. alike name (there link.name name (map (λ l. l.name) links) at)) all.1,
     )
 
--- objects stay closed where links lead from what is kept to what is kept
+-- objects stay closed if links lead from what is kept to what is kept
 pub closed_kept : (objects : Objects) (kept : List ℕ → Bool)
     → ((from name : List ℕ) → kept from ≡ true → Contains (linked_names objects from) name → contains_key objects name ≡ true → kept name ≡ true)
     → IsClosed objects → IsClosed (retain_keys objects kept)
@@ -130,7 +130,7 @@ closed_kept objects kept leads closed name object is =
     (λ other at is_there. stays_at objects kept other (leads name other found.0 (subst (λ o. Contains (map (λ link. link.name) (links_of_found o)) other) (sym found.1) at) is_there))
     (closed name object found.1)
 
--- references stay right where their targets are kept
+-- references stay valid if their targets are kept
 pub references_right : (objects : Objects) (kept : List ℕ → Bool) (references : References)
     → ((reference target : List ℕ) → get references reference ≡ Some target → contains_key objects target ≡ true → kept target ≡ true)
     → AreReferences objects references → AreReferences (retain_keys objects kept) references

@@ -54,7 +54,7 @@ none_unless (Some x) never = absurd (never x refl)
 pub some_not_none : {A : Type 0} (x : A) → Some x ≡ None → ⊥
 some_not_none x is = cc
 
--- what is neither seen nor sent is not there
+-- what is neither seen nor sent does not exist
 pub lacking_both : (objects : Objects) (sent : List Object) (name : List ℕ) → IsLacking objects sent name → get (with_objects objects sent) name ≡ None
 lacking_both objects sent name lacking =
     none_unless (get (with_objects objects sent) name) (λ object is.
@@ -63,7 +63,7 @@ lacking_both objects sent name lacking =
       | inr came ↦ lacking.unsent object came.sent came.named
     ])
 
--- the first item that is not judged right decides
+-- the first item that is not judged valid decides
 first_item : (judge : List ℕ → Result (List ℕ) Refusal) (items before behind : List (List ℕ)) (item : List ℕ) (refusal : Refusal) → map bare items ≡ before ++ item ∷ behind → AllByRecursion (λ other. is_ok (judge other) ≡ true) before
     → judge item ≡ Err refusal → selected judge items ≡ Err refusal
 first_item judge [] [] behind item refusal is right wrong = absurd (cc)
@@ -86,7 +86,7 @@ unseen_item objects repository item name named unseen =
 unseen_commit : (objects : Objects) (repository : Repository) (item name : List ℕ) → named_by repository item ≡ Some name → get objects name ≡ None → commit_of_item objects repository item ≡ Err (Missing name)
 unseen_commit objects repository item name named unseen = ap (commit_behind objects) (unseen_item objects repository item name named unseen)
 
--- a row goes over a repository that is there
+-- a row about an existing repository
 in_repository : (view : View) (word : List ℕ) (Holds : Repository → Type 0) (row : Option Repository → Reply × View) (left : Reply × View) → (at : InRepository view word Holds) → row (Some at.repository) ≡ left
     → named_repository view word (row (get view.repositories word)) ≡ left
 in_repository view word Holds row left at is = ap (λ b. cond b (row (get view.repositories word)) (Refused (BadName word), view)) at.named ∙ ap row at.found ∙ is
@@ -210,7 +210,7 @@ pushed_lacking view word old s name lacks =
     let verdict = sent_lacking view.objects old.references view.limit lacks.commands lacks.sent name lacks.lacks in
     ap (pushed view word old) lacks.whole ∙ ap (taken view word old (with_objects view.objects lacks.sent)) verdict.is ∙ ap (λ r. (Refused r, view)) verdict.told
 
--- by each way of naming
+-- for each way of naming
 pub lacking_answer : (context : Context) (view : View) (name : List ℕ) (ask : Ask) → IsMissing view name ask → answer context view ask ≡ (Refused (Missing name), left_by view ask)
 unfolding answer ls_tree_answer rev_list_answer merge_base_answer fetch_answer push_answer part_end_answer update_answer tree_told revisions_told fetch_told
 lacking_answer context view name (AsksObject asked) is = ap (λ n. answer context view (AsksObject n)) is.0 ∙ unheld_answer context view name is.1
@@ -259,14 +259,14 @@ lacking_answer context view name NoRequest is = absurd is
 some_same : (a b : View) → Some a ≡ Some b → a ≡ b
 some_same a b is = cc
 
--- in a step of any world that has this view for the tenant
+-- in a step from any world in which the tenant has this view
 pub lacking_step : (old new : World) (t : List ℕ) (view : View) (name : List ℕ) (ask : Ask) (reply : Reply) → get old t ≡ Some view → IsMissing view name ask → Steps old (Asks t ask) reply new → is_host_fault reply ≡ false → reply ≡ Refused (Missing name)
 lacking_step old new t view name ask reply here lacks (Answered other there told set) fine =
     told ∙ ap (λ v. (answer (met_by old t) v ask).0) (some_same other view (sym there ∙ here)) ∙ ap (λ row. row.0) (lacking_answer (met_by old t) view name ask lacks)
 lacking_step old new t view name ask reply here lacks (Unknown absent told stays) fine = (let differs : ⊥ = cc (sym absent ∙ here) in absurd differs)
 lacking_step old new t view name ask reply here lacks (Faulted bad stays) fine = (let differs : ⊥ = cc (sym fine ∙ bad) in absurd differs)
 
--- which leaves the world but for the upload that a refused end takes away
+-- the step leaves the world, except that a refused end removes the upload
 pub lacking_world : (old new : World) (t : List ℕ) (view : View) (name : List ℕ) (ask : Ask) (reply : Reply) → get old t ≡ Some view → IsMissing view name ask → Steps old (Asks t ask) reply new → is_host_fault reply ≡ false → new ≡ insert old t (left_by view ask)
 lacking_world old new t view name ask reply here lacks (Answered other there told set) fine =
     set ∙ ap (λ v. insert old t (answer (met_by old t) v ask).1) (some_same other view (sym there ∙ here)) ∙ ap (λ row. insert old t row.1) (lacking_answer (met_by old t) view name ask lacks)

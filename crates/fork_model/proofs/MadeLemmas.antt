@@ -26,7 +26,7 @@ by_test P false x y left right = right
 another : (receiver own : List ℕ) → not (same_name receiver own) ≡ true → receiver ≢ own
 another receiver own apart is = (let same = ap (same_name receiver) is in let itself = same_itself receiver in let no : ⊥ = cc in no)
 
--- each offer that was made is such
+-- this holds of each offer that was made
 abbrev pub EachMade : (Pair → Offer → Type 0) → Offers → Type 0
 EachMade P made = (key : Pair) (offer : Offer) → get made key ≡ Some offer → P key offer
 

@@ -1,4 +1,4 @@
--- Runs in which what a tenant is offered stays.
+-- Runs that leave what a tenant is offered.
 use Rattle.std.proofs.Common.{◌≡◌, List, [], ◌∷◌, ℕ, Some, refl, ap, sym, ◌∙◌}
 use Rattle.std.specs.FinMap.{get}
 use Rattle.git_name.specs.Name.{name_cmp}
@@ -14,7 +14,7 @@ use Rattle.fork_model.specs.World.{Agree, Event, Explains, HostSays, IsUnfaulted
 use Rattle.fork_model.proofs.IsolationLemmas.{StaysFor, run_met, runs_met_agree, steady}
 use Rattle.fork_model.proofs.OfferedLemmas.{met_still}
 
--- beside each request the same offers are met, where none is made or withdrawn
+-- each request meets the same offers, if none is made or withdrawn
 stays_for : (t : List ℕ) (old new : World) (steps : List Event) (replies : List Reply) (run : Explains old steps replies new) → LeavesOffers t steps replies → StaysFor name_cmp name_total met_by answer (Refused UnknownTenant) is_host_fault HostSays t old steps replies new run
 stays_for t old new [] [] run leaves = tt
 stays_for t old new [] (reply ∷ replies) run leaves = tt
@@ -32,12 +32,12 @@ last_met t old new [] (reply ∷ replies) run leaves = absurd run
 last_met t old new (step ∷ steps) [] run leaves = absurd run
 last_met t old new (step ∷ steps) (reply ∷ replies) run leaves = last_met t run.0 new steps replies run.2 leaves.1 ∙ met_still t old run.0 step reply run.1 leaves.0
 
--- a tenant is told what a private host tells that meets the same
+-- a tenant gets the replies of a private host that meets the same
 pub run_private : (t : List ℕ) (old new : World) (steps : List Event) (replies : List Reply) (view : View) (run : Explains old steps replies new) → IsUnfaulted t steps replies → get old t ≡ Some view
     → (told t steps replies ≡ (alone view (met t old steps replies new run)).0) × (get new t ≡ Some (alone view (met t old steps replies new run)).1)
 run_private t old new steps replies view run fine here = run_met name_cmp name_total met_by answer (Refused UnknownTenant) is_host_fault HostSays t old new steps replies view run fine here
 
--- and where no offer to it is made or withdrawn, one that meets what stood at first
+-- and if no offer to it is made or withdrawn, of one that meets the offers at the start
 pub run_alone : (t : List ℕ) (old new : World) (steps : List Event) (replies : List Reply) (view : View) → Explains old steps replies new → IsUnfaulted t steps replies → LeavesOffers t steps replies → get old t ≡ Some view
     → (told t steps replies ≡ (alone view (meeting (met_by old t) (own t steps))).0) × (get new t ≡ Some (alone view (meeting (met_by old t) (own t steps))).1)
 run_alone t old new steps replies view run fine leaves here =

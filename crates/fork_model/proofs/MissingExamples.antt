@@ -1,4 +1,4 @@
--- Requests that name what a tenant lacks, by the definitions: one for each way of naming.
+-- Example requests that name what a tenant lacks: one for each way of naming.
 use Rattle.std.proofs.Common.{◌≡◌, ◌≢◌, ℕ, true, cond, zero, suc, List, [], ◌∷◌, ◌++◌, None, Some, Option, Ok, codes, refl, ap, subst, ◌∙◌, arith, is_some, append-nil}
 use Rattle.std.specs.Prelude.{replicate, Contains}
 use Rattle.std.specs.FinMap.{empty, get, get-empty, get-insert, insert}
@@ -55,7 +55,7 @@ plain = refl
 found : (upload : Option UploadValue) → get (bare_view upload).repositories (codes "r") ≡ Some new_repository
 found upload = get-insert name_total empty (codes "r") new_repository (codes "r")
 
--- what holds of a new repository holds in it
+-- what holds of a new repository holds of `r`
 in_r : (upload : Option UploadValue) (Holds : Repository → Type 0) → Holds new_repository → InRepository (bare_view upload) (codes "r") Holds
 in_r upload Holds holds = record { named = plain; repository = new_repository; found = found upload; holds = holds }
 
@@ -126,7 +126,7 @@ a_target_of_a_push = in_r None _ (refl, in_stream)
 a_target_of_an_upload : IsMissing (bare_view (Some (upload_of (line ++ codes "\n")))) name (EndsParts (codes "r"))
 a_target_of_an_upload = in_r (Some (upload_of (line ++ codes "\n"))) _ (record { upload = upload_of (line ++ codes "\n"); opened = refl; lacks = in_stream })
 
--- a push of one right object that nobody has: its first link, unless it leads to the object itself
+-- a push of one valid object that nobody has: its first link is missing, unless it leads to the object itself
 sent_alone : (object : Object) → get (with_object nothing object) (object_name object) ≡ Some object
 sent_alone object =
     ap (λ o. get (cond (is_some o) nothing (insert nothing (object_name object) object)) (object_name object)) (get-empty {X = Object} name_cmp (object_name object))

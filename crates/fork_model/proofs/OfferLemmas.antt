@@ -1,4 +1,4 @@
--- What references reach among closed objects stays if objects are added, or if what is reached is kept.
+-- What references reach among closed objects stays if objects are added, or if all that is reached is kept.
 use Rattle.std.proofs.Common.{◌≡◌, ◌≢◌, ℕ, Bool, true, false, cond, List, Option, Some, None, refl, sym, ap, subst, ◌∙◌, is_some}
 use Rattle.std.specs.Prelude.{map, Contains}
 use Rattle.std.specs.Option.{option_or}
@@ -22,11 +22,11 @@ use Rattle.fork_model.proofs.ClosedLemmas.{each_of}
 use Rattle.fork_model.proofs.EntryLemmas.{each_made, is_equal, pair_exact, pair_total}
 use Rattle.fork_model.proofs.KeptLemmas.{found_kept, found_value, kept_at, stays_at, there_by_link}
 
--- what is found among some objects is found among others
+-- what is found among some objects is found among the others
 abbrev pub AreAmong : Objects → Objects → Type 0
 AreAmong objects others = (name : List ℕ) → contains_key objects name ≡ true → get others name ≡ get objects name
 
--- where references point, these objects have something
+-- these objects have what the references point at
 abbrev pub HaveTargets : Objects → References → Type 0
 HaveTargets objects references = (reference target : List ℕ) → get references reference ≡ Some target → contains_key objects target ≡ true
 
@@ -35,13 +35,13 @@ found_in (Some object) is = (object, refl)
 found_in None is = absurd (let no : ⊥ = cc in no)
 
 module _ (objects others : Objects) (roots : List (List ℕ)) (closed : IsClosed objects) (among : AreAmong objects others) (there : (name : List ℕ) → Contains roots name → contains_key objects name ≡ true) where
-  -- a link of an object that is there leads to one
+  -- a link of an existing object leads to an existing one
   linked : (from name : List ℕ) → contains_key objects from ≡ true → Contains (linked_names objects from) name → contains_key objects name ≡ true
   linked from name here is =
       let found = found_in (get objects from) here in
       there_by_link objects (links_in found.0.kind found.0.bytes) name (closed from found.0 found.1) (subst (λ o. Contains (map (λ link. link.name) (links_of_found o)) name) found.1 is)
 
-  -- what is reached among more objects was there and was reached
+  -- what is reached among more objects existed before and was reached
   was_reached : (name : List ℕ) → IsReached (linked_names others) others roots name → IsReached (linked_names objects) objects roots name × (contains_key objects name ≡ true)
   was_reached _ (Root name at is) = (Root name at (there name at), there name at)
   was_reached _ (Next from name reached leads is) =
@@ -54,7 +54,7 @@ module _ (objects others : Objects) (roots : List (List ℕ)) (closed : IsClosed
   from_there _ (Root name at is) = is
   from_there _ (Next from name reached leads is) = is
 
-  -- and what was reached is reached still
+  -- and what was reached is still reached
   is_still : (name : List ℕ) → IsReached (linked_names objects) objects roots name → IsReached (linked_names others) others roots name
   is_still _ (Root name at is) = Root name at (ap is_some (among name is) ∙ is)
   is_still _ (Next from name reached leads is) =
@@ -75,30 +75,30 @@ module _ (objects others : Objects) (roots : List (List ℕ)) (closed : IsClosed
       by true is = among name (from_there name (reached_led_to (linked_names objects) objects roots name is))
       by false is = refl
 
--- where references point at names that are there, each of their values is one
+-- if all targets of references exist, each value of the references exists
 pub targets_there : (objects : Objects) (references : References) → HaveTargets objects references → (name : List ℕ) → Contains (values references) name → contains_key objects name ≡ true
 targets_there objects references have name at =
     each_of (λ target. contains_key objects target ≡ true) (values references) name (each_made name_total name_exact (λ target. contains_key objects target ≡ true) (λ e. e.1) references have) at
 
--- references reach the same among more objects
+-- references reach the same objects when more are added
 pub still_reached : (objects others : Objects) (references : References) → IsClosed objects → AreAmong objects others → HaveTargets objects references → reached_by others references ≡ reached_by objects references
 still_reached objects others references closed among have =
     same_map name_total name_exact (reached_by others references) (reached_by objects references) (same_found objects others (values references) closed among (targets_there objects references have))
 
--- where references of an offer point, what it holds is found among the objects
+-- the objects have what the references of an offer point at
 pub reach_targets : (objects : Objects) (offer : Offer) → IsReach objects offer → HaveTargets objects offer.repository.references
 reach_targets objects offer reach reference target points =
     let held = found_in (get offer.objects target) (reach.targets reference target points) in
     ap is_some (found_kept objects (is_reached (linked_names objects) objects (values offer.repository.references)) target held.0 (subst (λ (all : Objects). get all target ≡ Some held.0) reach.objects held.1)).1
 
--- an offer holds what its references reach, also where objects come
+-- an offer still holds what its references reach when objects are added
 pub reach_grows : (objects others : Objects) (offer : Offer) → IsClosed objects → AreAmong objects others → IsReach objects offer → IsReach others offer
 reach_grows objects others offer closed among reach = record {
   targets = reach.targets;
   objects = reach.objects ∙ sym (still_reached objects others offer.repository.references closed among (reach_targets objects offer reach));
 }
 
--- and where others go, so that closed objects with its targets stay
+-- and when others are removed, if closed objects with its targets stay
 pub reach_kept : (objects : Objects) (kept : List ℕ → Bool) (offer : Offer) → IsClosed (retain_keys objects kept) → ((reference target : List ℕ) → get offer.repository.references reference ≡ Some target → contains_key objects target ≡ true → kept target ≡ true)
     → IsReach objects offer → IsReach (retain_keys objects kept) offer
 reach_kept objects kept offer closed rooted reach = record {
@@ -108,7 +108,7 @@ reach_kept objects kept offer closed rooted reach = record {
       (λ reference target points. let there = reach_targets objects offer reach reference target points in ap is_some (stays_at objects kept target (rooted reference target points there)) ∙ there);
 }
 
--- a repository as it is holds, offered, what its references reach
+-- a new offer of a repository holds what its references reach
 pub new_reach : (objects : Objects) (repository : Repository) → HaveTargets objects repository.references → IsReach objects (offered objects repository)
 new_reach objects repository have = record {
   targets = λ reference target points.
@@ -118,7 +118,7 @@ new_reach objects repository have = record {
   objects = refl;
 }
 
--- what is seen is found among what is joined with it
+-- what is seen is found among the joined objects
 pub among_joined : (objects others : Objects) → AreAmong objects (joined objects others)
 among_joined objects others name there = get_joined name_total objects others name ∙ by (get objects name) there
   where
@@ -137,7 +137,7 @@ apart_pairs a b apart = by (eq_by_cmp pair_cmp a b) refl
     by true is = absurd (apart (tied_pairs a b is))
     by false is = refl
 
--- what holds of one that comes and of each that was there holds of all
+-- what holds of one that is added and of each that existed holds of all
 pub offer_inserted : (P : Pair → Offer → Type 0) (made : Offers) (key : Pair) (new : Offer) → P key new → ((other : Pair) (offer : Offer) → get made other ≡ Some offer → P other offer) → (other : Pair) (offer : Offer) → get (insert made key new) other ≡ Some offer → P other offer
 offer_inserted P made key new one others other offer is = by (eq_by_cmp pair_cmp other key) refl (sym (get-insert pair_total made key new other) ∙ is)
   where

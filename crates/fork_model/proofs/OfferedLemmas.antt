@@ -1,4 +1,4 @@
--- What a tenant is offered in a world: what others' views say that they have made to it.
+-- What a tenant is offered in a world: what the views of others have made to it.
 use Rattle.std.proofs.Common.{◌≡◌, ◌≢◌, ℕ, Bool, true, false, cond, List, [], ◌∷◌, ◌++◌, Option, Some, None, refl, sym, ap, subst, ◌∙◌, ◌&&◌}
 use Rattle.std.specs.Prelude.{map}
 use Rattle.std.specs.declared.cmp.Ordering.{Ordering}
@@ -27,7 +27,7 @@ use Rattle.fork_model.proofs.EntryLemmas.{each_made, is_equal, pair_exact, pair_
 use Rattle.fork_model.proofs.SoundLemmas.{made_answer}
 use Rattle.fork_model.proofs.StepLemmas.{undone}
 
--- names that are told alike are one
+-- names that compare as the same are one
 pub one_name : (a b : List ℕ) → same_name a b ≡ true → a ≡ b
 one_name a b is = name_exact a b (is_equal (name_cmp a b) (sym (one_test a b) ∙ is))
 
@@ -55,7 +55,7 @@ all_to receiver view =
     each_made pair_total pair_exact (λ (key : Pair). key.0 ≡ receiver) (λ e. e.0) (made_to receiver view)
     (λ key offer is. one_name key.0 receiver (passed (same_name key.0 receiver) (get view.made key) offer (sym (to_receiver receiver view key) ∙ is)))
 
--- under a giver's name stand the offers that it has made
+-- under a giver's name are the offers that it has made
 find_given : (receiver giver who word : List ℕ) (offers : List (Pair × Offer)) (b : Bool) → eq_by_cmp name_cmp who giver ≡ b → AllByRecursion (λ (key : Pair). key.0 ≡ receiver) (map (λ e. e.0) offers)
     → find pair_cmp (who, word) (map (λ offer. ((giver, offer.0.1), offer.1)) offers) ≡ cond b (find pair_cmp (receiver, word) offers) None
 find_given receiver giver who word [] true tied all = refl
@@ -86,7 +86,7 @@ find_behind key (e ∷ front) back = by (eq_by_cmp pair_cmp key e.0) (find_behin
     by true rest = refl
     by false rest = rest
 
--- a name stands nowhere above itself
+-- no name is above itself
 none_above : {X : Type 0} (name : List ℕ) (es : List (List ℕ × X)) → AllByRecursion (λ key. name_cmp name key ≡ Less) (map (λ e. e.0) es) → find name_cmp name es ≡ None
 none_above name [] above = refl
 none_above name (e ∷ es) above = ap (λ order. cond (is_eq order) (Some e.1) (find name_cmp name es)) above.0 ∙ none_above name es above.1
@@ -111,7 +111,7 @@ find_offered receiver who word (e ∷ es) sorted =
         ap (option_or (get e.1.made (receiver, word))) (rest ∙ ap (option_and_then (λ (view : View). get view.made (receiver, word))) none) ∙ alone (get e.1.made (receiver, word))
     by false tied rest = rest
 
--- ---- what is offered stands in the order of the givers, then of the repositories
+-- ---- offers to a tenant are ordered by giver, then by repository
 keys_behind : {X : Type 0} (front back : List (Pair × X)) → map (λ e. e.0) (front ++ back) ≡ map (λ e. e.0) front ++ map (λ e. e.0) back
 keys_behind [] back = refl
 keys_behind (e ∷ front) back = ap (λ keys. e.0 ∷ keys) (keys_behind front back)
@@ -120,7 +120,7 @@ all_behind : (P : Pair → Type 0) (front back : List Pair) → AllByRecursion P
 all_behind P [] back front_all back_all = back_all
 all_behind P (key ∷ front) back front_all back_all = (front_all.0, all_behind P front back front_all.1 back_all)
 
--- lists in order, each of the one below each of the other, are in order together
+-- two ordered lists, each element of the one below each of the other, are ordered together
 sorted_behind : (front back : List Pair) → IsStrictlySortedBy pair_cmp front → IsStrictlySortedBy pair_cmp back → AllByRecursion (λ key. AllByRecursion (λ other. pair_cmp key other ≡ Less) back) front → IsStrictlySortedBy pair_cmp (front ++ back)
 unfolding IsStrictlySortedBy
 sorted_behind [] back front_sorted back_sorted below = back_sorted
@@ -143,12 +143,12 @@ given_sorted receiver giver (offer ∷ offers) all sorted = (above offers all.1 
     above [] others_all less = tt
     above (other ∷ others) others_all less = (same_first giver offer.0.0 other.0.0 offer.0.1 other.0.1 less.0 (all.0 ∙ sym others_all.0), above others others_all.1 less.1)
 
--- each of what this one gives stands under its name
+-- all that one giver gives is under its name
 all_given : (receiver giver : List ℕ) (offers : List (Pair × Offer)) → AllByRecursion (λ (key : Pair). key.0 ≡ giver) (map (λ (e : Pair × Offer). e.0) (map (λ offer. ((giver, offer.0.1), offer.1)) offers))
 all_given receiver giver [] = tt
 all_given receiver giver (offer ∷ offers) = (refl, all_given receiver giver offers)
 
--- and below what those give that stand behind it
+-- and below all that the givers after it give
 given_below : (receiver giver : List ℕ) (es : List (List ℕ × View)) → AllByRecursion (λ name. name_cmp giver name ≡ Less) (map (λ e. e.0) es) → (key : Pair) → key.0 ≡ giver → AllByRecursion (λ other. pair_cmp key other ≡ Less) (map (λ e. e.0) (flat_map (given_by receiver) es))
 given_below receiver giver [] above key is = tt
 given_below receiver giver (e ∷ es) above key is =
@@ -171,7 +171,7 @@ offered_sorted receiver (e ∷ es) sorted =
     each [] all = tt
     each (key ∷ keys) all = (given_below receiver e.0 es sorted.0 key all.0, each keys all.1)
 
--- so its entries are those of the givers, one behind the other
+-- so the entries are those of the givers, one giver after the other
 pub offered_entries : (world : World) (receiver : List ℕ) → entries (offered_to world receiver) ≡ flat_map (given_by receiver) (entries world)
 unfolding offered_to
 offered_entries world receiver = entries_of_ordered pair_total (flat_map (given_by receiver) (entries world)) (offered_sorted receiver (entries world) (sorted_entries world))
@@ -183,7 +183,7 @@ get_offered world receiver giver word =
     get-from_entries pair_total (flat_map (given_by receiver) (entries world)) (giver, word)
     ∙ (find_offered receiver giver word (entries world) (sorted_entries world) ∙ ap (option_and_then (λ (view : View). get view.made (receiver, word))) (sym (get-entries world giver)))
 
--- so who offers is there
+-- the giver of an offer exists, and has made the offer
 pub record IsGiven (world : World) (receiver giver word : List ℕ) (offer : Offer) : Type 0 where
   pub view : View
   pub there : get world giver ≡ Some view
@@ -207,7 +207,7 @@ not_both a b differ here = (let all : (a && true) ≡ false = subst (λ t. (a &&
     by true is = is
     by false is = refl
 
--- an answer leaves what its tenant offers to another one, where it does not deal with that one
+-- an answer leaves what its tenant offers to another one, if it does not deal with that one
 made_still : (context : Context) (view : View) (giver tenant word : List ℕ) (ask : Ask) → deals_with tenant (Asks giver ask) (answer context view ask).0 ≡ false → get (answer context view ask).1.made (tenant, word) ≡ get view.made (tenant, word)
 made_still context view giver tenant word (MakesOffer repository receiver) apart = by (same_name receiver tenant) refl
   where
@@ -242,7 +242,7 @@ made_still context view giver tenant word AsksRepositories apart = ap (λ (made 
 made_still context view giver tenant word Prunes apart = ap (λ (made : Offers). get made (tenant, word)) (made_answer context view Prunes)
 made_still context view giver tenant word NoRequest apart = ap (λ (made : Offers). get made (tenant, word)) (made_answer context view NoRequest)
 
--- where a world gets a view in a giver's place which offers a tenant what that one was offered from there, the tenant is offered the same
+-- if a giver's new view offers a tenant what that giver offered it before, the tenant is offered the same
 set_offered : (world : World) (giver tenant : List ℕ) (after : View) → ((word : List ℕ) → get after.made (tenant, word) ≡ option_and_then (λ (view : View). get view.made (tenant, word)) (get world giver)) → offered_to (insert world giver after) tenant ≡ offered_to world tenant
 set_offered world giver tenant after same =
     same_map pair_total pair_exact (offered_to (insert world giver after) tenant) (offered_to world tenant) (λ key.
@@ -254,11 +254,11 @@ set_offered world giver tenant after same =
     by word who true tied = same word ∙ sym (ap (option_and_then (λ (v : View). get v.made (tenant, word))) (ap (get world) (name_exact who giver (is_equal (name_cmp who giver) tied))))
     by word who false apart = refl
 
--- so it is where another view stands there, which offers it the same
+-- so it is if the old view offered the tenant the same
 same_offered : (world : World) (giver tenant : List ℕ) (view after : View) → get world giver ≡ Some view → ((word : List ℕ) → get after.made (tenant, word) ≡ get view.made (tenant, word)) → offered_to (insert world giver after) tenant ≡ offered_to world tenant
 same_offered world giver tenant view after here same = set_offered world giver tenant after (λ word. same word ∙ sym (ap (option_and_then (λ (v : View). get v.made (tenant, word))) here))
 
--- and where none stood there, and the new one has made no offer
+-- and if the giver did not exist, and the new view has made no offer
 pub added_offered : (world : World) (name receiver : List ℕ) (view : View) → get world name ≡ None → view.made ≡ empty → offered_to (insert world name view) receiver ≡ offered_to world receiver
 added_offered world name receiver view lacks none =
     set_offered world name receiver view (λ word.

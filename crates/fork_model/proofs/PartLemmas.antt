@@ -9,7 +9,7 @@ use Rattle.fork_model.specs.World.{Exchange}
 abbrev Unended : List Exchange → Type 0
 Unended exchanges = AllByRecursion (λ exchange. ends_upload exchange ≡ false) exchanges
 
--- the end of an upload that is published
+-- the end that publishes an upload
 abbrev published : List ℕ → Exchange
 published repository = (EndsParts repository, Done [])
 
@@ -25,7 +25,7 @@ part_or_end (EndsParts repository, reply) body is = absurd (cc)
 part_or_end (DropsParts, reply) body is = absurd (cc)
 part_or_end exchange body is = refl
 
--- an end is no exchange during an upload
+-- an end does not occur during an upload
 pub unlike : (exchange end : Exchange) → exchange ≡ end → ends_upload end ≡ true → ends_upload exchange ≡ false → ⊥
 unlike exchange end is ended no_end = (let both : true ≡ false = sym (ap ends_upload is ∙ ended) ∙ no_end in absurd (cc))
 
@@ -36,12 +36,12 @@ same_parts (x ∷ during) [] behind beyond repository word is first second = abs
 same_parts (x ∷ during) (y ∷ other) behind beyond repository word is first second =
     ap₂ (λ (front rest : List (List ℕ)). front ++ rest) (ap part_in (head_is x y _ _ is)) (same_parts during other behind beyond repository word (tail_is x y _ _ is) first.1 second.1)
 
--- so there is one list of parts at the most: none can be left out, and none stands twice
+-- so there is at most one list of parts: none can be left out, and none occurs twice
 pub one_list : (exchanges : List Exchange) (bodies others : List (List ℕ)) → AreParts exchanges bodies → AreParts exchanges others → bodies ≡ others
 one_list exchanges bodies others first second =
     first.whole ∙ same_parts first.during second.during first.behind second.behind first.repository second.repository (sym first.parts ∙ second.parts) first.no_end second.no_end ∙ sym second.whole
 
--- what stands behind an end adds nothing
+-- what comes after an end adds nothing
 cut : (front behind during beyond : List Exchange) (end : Exchange) (repository : List ℕ) → ends_upload end ≡ true → front ++ end ∷ behind ≡ during ++ published repository ∷ beyond → Unended during → AreParts (front ++ end ∷ []) (parts_in during)
 cut [] behind [] beyond end repository ended is no_end = record {
   during = [];

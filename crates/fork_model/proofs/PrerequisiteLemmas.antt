@@ -1,4 +1,4 @@
--- A receiver whose objects link to existing objects, and that has the excluded names, has what these reach.
+-- A receiver that has the excluded names, and whose objects link to existing objects, has all that these names reach.
 use Rattle.std.proofs.Common.{◌≡◌, ℕ, true, List, [], Option, None, Some, refl, subst, arith, map}
 use Rattle.std.specs.Prelude.{Contains}
 use Rattle.std.specs.FinMap.{contains_key, get}
@@ -16,7 +16,7 @@ use Rattle.fork_model.proofs.TransferLemmas.{none_there}
 none_linked : (name : List ℕ) → Contains (map (λ (link : Link). link.name) []) name → ⊥
 none_linked name at = omega arith
 
--- what the excluded names reach is there, step by step
+-- the receiver has what the excluded names reach, step by step
 led_there : (receiver sender : Objects) (excluded : List (List ℕ)) → IsClosed receiver
     → HoldTheSame sender receiver
     → ((name : List ℕ) → Contains excluded name → contains_key sender name ≡ true → contains_key receiver name ≡ true)

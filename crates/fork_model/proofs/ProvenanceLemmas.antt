@@ -1,4 +1,4 @@
--- What a tenant sees, it saw before or sent itself: answer by answer.
+-- Answer by answer: a tenant sees what it saw before, sent itself, or forked.
 use Rattle.std.proofs.Common.{◌≡◌, ℕ, ◌+◌, Bool, true, false, cond, List, [], ◌∷◌, Option, Some, None, Result, Ok, Err, refl, sym, ap, ◌∙◌, arith, is_some, inl, inr, ◌⊎◌, length}
 use Rattle.std.specs.Prelude.{nat_le, nat_lt, not}
 use Rattle.std.specs.FinMap.{get, insert, remove, contains_key, len}
@@ -38,7 +38,7 @@ use Rattle.fork_model.proofs.ClosedLemmas.{of_one}
 use Rattle.fork_model.proofs.KeptLemmas.{found_kept, there}
 use Rattle.fork_model.proofs.StepLemmas.{answer_tells}
 
--- what is found beside objects that came was there before, or is one of them
+-- what is found once objects were added was there before, or is one of them
 pub among_both : (objects : Objects) (sent : List Object) (name : List ℕ) (object : Object) → get (with_objects objects sent) name ≡ Some object
     → (get objects name ≡ Some object) ⊎ IsAmong sent name object
 among_both objects [] name object is = inl is
@@ -51,7 +51,7 @@ among_both objects (more ∷ sent) name object is =
       | inr later ↦ inr (record { sent = there more object sent later.sent; named = later.named })
     ]
 
--- the same of a stream at its end
+-- also for the objects of a stream that is at its end
 pub among_held : (view : View) (s : Stream) (name : List ℕ) (object : Object) → get (both view (finished s)) name ≡ Some object
     → (get view.objects name ≡ Some object) ⊎ IsAmong (sent_in s) name object
 among_held view (Flows commands objects true []) name object is = among_both view.objects objects name object is
@@ -83,7 +83,7 @@ found_joined objects others name object is = by (get objects name) (sym (get_joi
     by None found = inr found
     by (Some first) found = inl found
 
--- an offer that is made, or goes
+-- an offer is made
 offer_row : (view : View) (word receiver : List ℕ) (o : Option Repository) → IsQuiet view (offer_in view word receiver o)
 offer_row view word receiver None = quiet view (Refused (NoRepository word))
 offer_row view word receiver (Some repository) =
@@ -94,7 +94,7 @@ withdrawn_row : (view : View) (key : Pair) → IsQuiet view (withdrawn view key)
 withdrawn_row view key = either (IsQuiet view) (contains_key view.made key) _ (Refused (NoOffer key.0 key.1), view) (record { objects = refl; upload = refl }) (quiet view (Refused (NoOffer key.0 key.1)))
 
 module _ (context : Context) where
-  -- a row of which all that is seen behind it is known to come from somewhere, and which leaves the upload
+  -- a row for which all that is seen afterwards is known to come from somewhere, and which leaves the upload
   record IsKnown (view : View) (ask : Ask) (row : Reply × View) : Type 0 where
     objects : (name : List ℕ) (object : Object) → get row.1.objects name ≡ Some object → IsFrom context view (ask, row.0) name object
     upload : row.1.upload ≡ view.upload
@@ -105,12 +105,12 @@ module _ (context : Context) where
     upload = is.upload;
   }
 
-  -- a row of which the upload is known too
+  -- a row for which the origin of the upload is known too
   record IsTold (view : View) (ask : Ask) (row : Reply × View) : Type 0 where
     objects : (name : List ℕ) (object : Object) → get row.1.objects name ≡ Some object → IsFrom context view (ask, row.0) name object
     upload : IsUploadFrom view (ask, row.0) row.1.upload
 
-  -- a request that is no part and no end leaves it
+  -- a request that is neither a part nor an end leaves the upload
   plain : (view : View) (ask : Ask) (row : Reply × View) → part_in (ask, row.0) ≡ [] → ends_upload (ask, row.0) ≡ false → IsKnown view ask row → IsTold view ask row
   plain view ask row part end is = record { objects = is.objects; upload = Stays part end is.upload }
 
@@ -148,7 +148,7 @@ module _ (context : Context) where
   set_head_row view word reference None = quiet view (Refused (NoRepository word))
   set_head_row view word reference (Some old) = with_head_row view word old reference (branch_in reference)
 
-  -- a push of a stream: what is seen behind it was seen, or stands in the stream
+  -- a push of a stream: what is seen afterwards was seen before, or is in the stream
   taken_row : (view : View) (ask : Ask) (word : List ℕ) (old : Repository) (objects : Objects) (value : Result References PushRefusal)
       → ((name : List ℕ) (object : Object) → get objects name ≡ Some object → IsFrom context view (ask, Done []) name object) → IsKnown view ask (taken view word old objects value)
   taken_row view ask word old objects (Ok new) all = record { objects = all; upload = refl }
@@ -186,7 +186,7 @@ module _ (context : Context) where
   ended_row : (view : View) (word : List ℕ) (row : Reply × View) → is_host_fault row.0 ≡ false → IsKnown view (EndsParts word) row → IsTold view (EndsParts word) (upload_ended row)
   ended_row view word row fine is = record { objects = is.objects; upload = Ends (ap not fine) refl }
 
-  -- what holds of both branches, each where it is taken, holds of the test
+  -- what holds of each branch when it is taken holds of the test
   by_test : (P : Reply × View → Type 0) (b : Bool) (x y : Reply × View) → (b ≡ true → P x) → (b ≡ false → P y) → P (cond b x y)
   by_test P true x y left right = left refl
   by_test P false x y left right = right refl
@@ -209,7 +209,7 @@ module _ (context : Context) where
       (λ there. record { objects = λ name object found. Seen found; upload = Ends refl refl })
       (λ absent. record { objects = λ name object found. Seen found; upload = Ends refl (none_there view.upload absent) })
 
-  -- an offer that is forked: what is seen behind it was seen, or stands in the offer
+  -- a forked offer: what is seen afterwards was seen before, or is in the offer
   fork_offered_row : (view : View) (giver word copy : List ℕ) (o : Option Offer) → get context.offered (giver, word) ≡ o → IsKnown view (ForksOffer giver word copy) (fork_offered view (giver, word) copy o)
   fork_offered_row view giver word copy None stands = known view _ _ (quiet view (Refused (NoOffer giver word)))
   fork_offered_row view giver word copy (Some offer) stands =

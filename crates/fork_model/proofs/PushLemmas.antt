@@ -1,4 +1,4 @@
--- What an accepted push says, and what is in a stream that is at its end.
+-- What an accepted push means, and what is in a stream that is at its end.
 use Rattle.std.proofs.Common.{◌≡◌, ℕ, ◌≤◌, Bool, true, false, cond, [], ◌∷◌, Option, Some, None, Result, Ok, Err, refl, ap, arith}
 use Rattle.std.specs.Prelude.{nat_lt, ⊤}
 use Rattle.std.specs.List.{find}
@@ -27,7 +27,7 @@ held_right (Flows commands objects true (b ∷ rest)) are = tt
 held_right (Flows commands objects false rest) are = tt
 held_right (Breaks fault) are = tt
 
--- what an accepted push says: no link is wrong, the transaction was carried out, and the limit is kept
+-- what an accepted push means: no link is wrong, the transaction was carried out, and the limit is kept
 pub record IsAccepted (both : Objects) (old : References) (limit : ℕ) (brief : BriefValue) (new : References) : Type 0 where
   pub met : find (is_wrong both) (links_under both brief.1) ≡ None
   pub carried : transacted old brief.0 (kind_in both) ≡ Ok new

@@ -1,4 +1,4 @@
--- What each row of the answer does: it refuses and leaves what a refusal leaves, or it is done and leaves a sound view sound.
+-- What each row of the answer does: it refuses and leaves what a refusal leaves, or it succeeds and leaves a sound view sound.
 use Rattle.std.proofs.Common.{◌≡◌, ℕ, ◌+◌, ◌≤◌, Bool, true, false, cond, List, [], Option, Some, None, Result, Ok, Err, refl, sym, ap, subst, ◌∙◌, arith, is_some, inl, inr, ◌∷◌, ◌&&◌, ◌≢◌, not, length, ◌-◌}
 use Rattle.std.specs.Prelude.{Contains, nat_le, nat_lt, map}
 use Rattle.std.specs.Option.{option_map}
@@ -56,7 +56,7 @@ use Rattle.fork_model.proofs.OfferLemmas.{AreAmong, among_joined, left_before, n
 use Rattle.fork_model.proofs.PushLemmas.{AreHeld, IsAccepted, accepted, held_right}
 use Rattle.fork_model.proofs.TransactionLemmas.{sound_transacted}
 
--- offers are as they were, but for that under a key, if one is given
+-- offers are as they were, except under this key, if one is given
 abbrev pub SameBut : Option Pair → Offers → Offers → Type 0
 SameBut None old new = new ≡ old
 SameBut (Some key) old new = (other : Pair) → other ≢ key → get new other ≡ get old other
@@ -67,11 +67,11 @@ record MayStand (objects : Objects) (name : List ℕ) (repository : Repository) 
   branch : IsBranch repository.head
   sound : AreReferences objects repository.references
 
--- each of these may
+-- this holds of each of these repositories
 abbrev MayAllStand : Objects → Repositories → Type 0
 MayAllStand objects repositories = (name : List ℕ) (repository : Repository) → get repositories name ≡ Some repository → MayStand objects name repository
 
--- other repositories that may stand make an orderly view
+-- a view stays orderly if each of its new repositories may exist
 with_repositories : (view : View) (repositories : Repositories) → IsOrderly view → len repositories ≤ 256 → MayAllStand view.objects repositories → IsOrderly (record view { repositories = repositories })
 with_repositories view repositories orderly few each = record {
   upload = orderly.upload;
@@ -85,11 +85,11 @@ with_repositories view repositories orderly few each = record {
   offers = orderly.offers;
 }
 
--- and leave it right
+-- and stays right
 still_right : (view : View) (repositories : Repositories) → IsRight view → IsRight (record view { repositories = repositories })
 still_right view repositories right = record { named = right.named; right = right.right; closed = right.closed; offered = right.offered; upload = right.upload }
 
--- a repository put beside others
+-- one more repository may exist beside others
 each_inserted : (objects : Objects) (repositories : Repositories) (word : List ℕ) (new : Repository) → MayStand objects word new → MayAllStand objects repositories → MayAllStand objects (insert repositories word new)
 each_inserted objects repositories word new right others name repository is =
     elim (at_key (eq_by_cmp name_cmp name word) new repository (get repositories name) (sym (get-insert name_total repositories word new name) ∙ is)) [
@@ -97,11 +97,11 @@ each_inserted objects repositories word new right others name repository is =
       | inr there ↦ others name repository there
     ]
 
--- those of an orderly view may stand
+-- the repositories of an orderly view may exist
 sound_each : (view : View) → IsOrderly view → MayAllStand view.objects view.repositories
 sound_each view sound name repository is = record { word = sound.repositories name repository is; branch = sound.heads name repository is; sound = sound.references name repository is }
 
--- a repository that stands may stand with other references, and with another head
+-- an existing repository may get other references, or another HEAD
 other_references : (view : View) (word : List ℕ) (old : Repository) (new : References) → IsOrderly view → get view.repositories word ≡ Some old → (objects : Objects) → AreReferences objects new
     → MayStand objects word (record old { references = new })
 other_references view word old new orderly there objects sound = record { word = orderly.repositories word old there; branch = orderly.heads word old there; sound = sound }
@@ -142,11 +142,11 @@ found_before : {X : Type 0} (b : Bool) (o : Option X) (x : X) → cond b None o 
 found_before true o x is = absurd (cc)
 found_before false o x is = is
 
--- a new repository may stand
+-- a new repository may exist
 new_stands : (objects : Objects) (word : List ℕ) → IsRepositoryName word → MayStand objects word new_repository
 new_stands objects word right = record { word = right; branch = main_right; sound = none_right objects }
 
--- references stay right where objects come
+-- references stay valid when objects are added
 pub references_kept : (objects both : Objects) (references : References) → ((name : List ℕ) → contains_key objects name ≡ true → get both name ≡ get objects name) → AreReferences objects references → AreReferences both references
 references_kept objects both references grown right = record {
   each = λ reference target is.
@@ -165,7 +165,7 @@ still_few : (view : View) (word : List ℕ) (old new : Repository) → get view.
 still_few view word old new there few =
     subst (λ n. n ≤ 256) (sym (len-insert name_total view.repositories word new ∙ ap (λ b. cond b (len view.repositories) (len view.repositories + 1)) (ap is_some there))) few
 
--- an offer may have been made by a tenant that sees other objects, where its references hold over these
+-- an offer may have been made over other objects if its references are valid over them
 with_other_objects : (objects others : Objects) (key : Pair) (offer : Offer) → (AreReferences objects offer.repository.references → AreReferences others offer.repository.references) → IsOffer objects key offer → IsOffer others key offer
 with_other_objects objects others key offer holds is = record { receiver = is.receiver; named = is.named; head = is.head; references = holds is.references }
 
@@ -233,11 +233,11 @@ counted : (upload : UploadValue) (piece : List ℕ) → nat_lt 33554432 (upload.
 unfolding continued
 counted upload piece fits = grind (arith, nat_tests)
 
--- what is kept of objects has the roots that are there
+-- the kept objects include the roots that exist
 abbrev pub HasRoots : View → (List ℕ → Bool) → Type 0
 HasRoots view kept = (target : List ℕ) → Contains (roots_of view) target → contains_key view.objects target ≡ true → kept target ≡ true
 
--- where no root goes, the view stays in order
+-- if no root is removed, the view stays in order
 pub orderly_kept : (view : View) (kept : List ℕ → Bool) → HasRoots view kept → IsOrderly view → IsOrderly (record view { objects = retain_keys view.objects kept })
 orderly_kept view kept rooted orderly =
     let fits = use_of-kept view.objects kept in
@@ -261,7 +261,7 @@ roots_kept view target at there = root_reached (linked_names view.objects) view.
 orderly_pruned : (view : View) → IsOrderly view → IsOrderly (pruned view)
 orderly_pruned view orderly = orderly_kept view (is_reached (linked_names view.objects) view.objects (roots_of view)) (roots_kept view) orderly
 
--- where nothing goes that a root reaches, it stays right
+-- if nothing that a root reaches is removed, it stays right
 right_pruned : (view : View) → IsRight view → IsRight (pruned view)
 right_pruned view right =
     let next = linked_names view.objects in
@@ -275,7 +275,7 @@ right_pruned view right =
       upload = right.upload;
     }
 
--- other offers make an orderly view, where each may have been made
+-- a view stays orderly if each of its new offers may have been made
 with_offers : (view : View) (made : Offers) → IsOrderly view → len made ≤ 256 → ((key : Pair) (offer : Offer) → get made key ≡ Some offer → IsOffer view.objects key offer) → IsOrderly (record view { made = made })
 with_offers view made orderly few each = record {
   upload = orderly.upload;
@@ -289,7 +289,7 @@ with_offers view made orderly few each = record {
   offers = each;
 }
 
--- and a right one, where each holds what its references reach
+-- and right, if each holds what its references reach
 right_offers : (view : View) (made : Offers) → IsRight view → ((key : Pair) (offer : Offer) → get made key ≡ Some offer → IsReach view.objects offer) → IsRight (record view { made = made })
 right_offers view made right each = record { named = right.named; right = right.right; closed = right.closed; offered = each; upload = right.upload }
 
@@ -300,9 +300,9 @@ changed_by (Withdraws repository receiver) = Some (receiver, repository)
 changed_by ask = None
 
 pub data GoesTo (context : Context) (view left : View) (changed : Option Pair) (row : Reply × View) : Type 0 where
-  -- a refusal, which leaves this
+  -- a refusal, which leaves this view
   Refuses : (refusal : Refusal) → row.0 ≡ Refused refusal → row.1 ≡ left → GoesTo context view left changed row
-  -- data, the same offers but for one, and a view that is in order and right where the view was, and where what is offered may be taken
+  -- data, the same offers but for one, and a view that stays in order and right, if what is offered may be taken
   Does : (text : List ℕ) → row.0 ≡ Done text → SameBut changed view.made row.1.made
       → (MayTake context view.objects → IsOrderly view → IsOrderly row.1) → (IsSoundBeside context view.objects → IsSound view → IsRight row.1) → GoesTo context view left changed row
 
@@ -311,7 +311,7 @@ module _ (context : Context) where
   abbrev IsRow : View → Reply × View → Type 0
   IsRow view row = GoesTo context view view None row
 
-  -- where what is offered is not asked for
+  -- a row that does not look at offers
   does : {view left : View} {changed : Option Pair} {row : Reply × View} → (text : List ℕ) → row.0 ≡ Done text → SameBut changed view.made row.1.made → (IsOrderly view → IsOrderly row.1) → (IsRight view → IsRight row.1) → GoesTo context view left changed row
   does text told made orderly right = Does text told made (λ may. orderly) (λ beside sound. right sound.right)
 
@@ -323,7 +323,7 @@ module _ (context : Context) where
   either view true x y left right = left refl
   either view false x y left right = right refl
 
-  -- a row about a repository of a right name
+  -- a row about a repository with a valid name
   named_row : (view : View) (word : List ℕ) (row : Reply × View) → (IsRepositoryName word → IsRow view row) → IsRow view (named_repository view word row)
   named_row view word row right = either view (is_plain_name 64 word) row (Refused (BadName word), view) (λ is. right (plain_name 64 word is)) (λ _. refuses view (BadName word))
 
@@ -404,14 +404,14 @@ module _ (context : Context) where
   dropped_upload_row view =
       either view (is_some view.upload) (Done [], without_upload view) (Refused NoUpload, view) (λ _. does [] refl refl (orderly_without view) (right_without view)) (λ _. refuses view NoUpload)
 
-  -- another repository stands in the place of one that is there
+  -- another repository replaces an existing one
   replaced_row : (view : View) (word : List ℕ) (old new : Repository) → get view.repositories word ≡ Some old → (IsOrderly view → MayStand view.objects word new) → IsRow view (Done [], record view { repositories = insert view.repositories word new })
   replaced_row view word old new there right_new =
       does [] refl refl (λ sound. with_repositories view (insert view.repositories word new) sound (still_few view word old new there sound.few_repositories)
       (each_inserted view.objects view.repositories word new (right_new sound) (sound_each view sound)))
       (still_right view (insert view.repositories word new))
 
-  -- a repository that is there has other references
+  -- an existing repository gets other references
   with_references_row : (view : View) (word : List ℕ) (old : Repository) (value : Result References TxRefusal) → get view.repositories word ≡ Some old
       → ((new : References) → value ≡ Ok new → IsOrderly view → AreReferences view.objects new) → IsRow view (with_references view word old value)
   with_references_row view word old (Err refusal) there right_new = refuses view (transaction_refusal refusal)
@@ -428,7 +428,7 @@ module _ (context : Context) where
   update_row view word body None there = refuses view (NoRepository word)
   update_row view word body (Some old) there = carried_row view word old (commands_of body) there
 
-  -- a repository that is there has another head
+  -- an existing repository gets another HEAD
   with_head_row : (view : View) (word : List ℕ) (old : Repository) (reference : List ℕ) (o : Option (List ℕ)) → branch_in reference ≡ o → get view.repositories word ≡ Some old → IsRow view (with_head view word old reference o)
   with_head_row view word old reference None is there = refuses view (BadRef reference)
   with_head_row view word old reference (Some branch) is there =
@@ -438,7 +438,7 @@ module _ (context : Context) where
   set_head_row view word reference None there = refuses view (NoRepository word)
   set_head_row view word reference (Some old) there = with_head_row view word old reference (branch_in reference) refl there
 
-  -- a row that tells what was found, and leaves the view
+  -- a row that returns what was found, and leaves the view
   told_row : (view : View) (found : Result (List ℕ) Refusal) → IsRow view (reply_of found, view)
   told_row view (Ok text) = does text refl refl (λ was. was) (λ was. was)
   told_row view (Err refusal) = refuses view refusal
@@ -455,7 +455,7 @@ module _ (context : Context) where
   listing_row view word prefix None = refuses view (NoRepository word)
   listing_row view word prefix (Some repository) = does (listing view.objects repository.references prefix) refl refl (λ was. was) (λ was. was)
 
-  -- a row by a test, whatever offer it changes
+  -- a row by a test, whichever offer it changes
   either_to : (view : View) (changed : Option Pair) (b : Bool) (x y : Reply × View) → (b ≡ true → GoesTo context view view changed x) → (b ≡ false → GoesTo context view view changed y) → GoesTo context view view changed (cond b x y)
   either_to view changed true x y left right = left refl
   either_to view changed false x y left right = right refl

@@ -15,7 +15,7 @@ use Rattle.fork_model.specs.World.{Event, Explains, HostSays, Steps, World, met}
 use Rattle.fork_model.proofs.IsolationLemmas.{one_last, one_met, one_next}
 use Rattle.fork_model.proofs.StepLemmas.{answer_tells}
 
--- the world behind a step
+-- the world after a step
 next_settled : (old old2 mid mid2 : World) (step : Event) (reply : Reply) → old ≡ old2 → Steps old step reply mid → Steps old2 step reply mid2 → mid ≡ mid2
 next_settled old old2 mid mid2 step reply same one two = one_next name_cmp name_total met_by answer (Refused UnknownTenant) is_host_fault HostSays answer_tells refl old old2 mid mid2 step reply same one two
 

@@ -1,4 +1,4 @@
--- What was sent, or was in an offer that was forked, was seen after the answer that took it.
+-- What was sent, or was in a forked offer, was seen after the answer that took it.
 use Rattle.std.proofs.Common.{◌≡◌, ℕ, Bool, true, false, cond, zero, suc, List, [], ◌∷◌, ◌++◌, Option, Some, None, Result, Ok, Err, is_some, refl, sym, ap, subst, ◌∙◌, arith}
 use Rattle.std.specs.Option.{option_or}
 use Rattle.std.specs.Prelude.{nat_le, nat_lt}
@@ -33,7 +33,7 @@ use Rattle.fork_model.proofs.PartLemmas.{head_is, part_or_end, tail_is}
 use Rattle.fork_model.proofs.ProvenanceLemmas.{upload_from}
 use Rattle.fork_model.proofs.TransferLemmas.{came}
 
--- where a row is done, what is named is seen behind it
+-- if a row succeeds, this name is seen afterwards
 abbrev Shows : List ℕ → Reply × View → Type 0
 Shows name row = row.0 ≡ Done [] → contains_key row.1.objects name ≡ true
 
@@ -48,7 +48,7 @@ taken_shows : (view : View) (name word : List ℕ) (old : Repository) (objects :
 taken_shows view name word old objects (Ok new) there is = there
 taken_shows view name word old objects (Err refusal) there is = absurd (cc)
 
--- what a stream holds that is taken
+-- the objects of a stream that is taken
 pushed_shows : (view : View) (word : List ℕ) (old : Repository) (s : Stream) (name : List ℕ) (object : Object) → IsAmong (sent_in s) name object → Shows name (pushed view word old (finished s))
 unfolding judged
 pushed_shows view word old (Flows commands sent true []) name object among =
@@ -100,7 +100,7 @@ ended_here context view ask asked repository name object is among = (
   subst (λ a. Shows name (answer context view a)) (ap (λ (x : Exchange). x.0) (sym is)) (part_end_shows context view repository name object among) (ap (λ (x : Exchange). x.1) is),
 )
 
--- what was sent into an upload that began behind this end
+-- what was sent into an upload that began after this end
 begun_here : (view : View) (exchange : Exchange) (exchanges : List Exchange) (after : Option UploadValue) (bodies : List (List ℕ)) (name : List ℕ) (object : Object) → IsUploadFrom view exchange after → ends_upload exchange ≡ true
     → IsAmong (sent_in (stream_of (concat bodies))) name object → IsAmong (sent_in (fed (open_upload after) bodies).stream) name object
 begun_here view exchange exchanges after bodies name object (Stays part no_end stays) ended among = (let both : true ≡ false = sym ended ∙ no_end in absurd (cc))
@@ -108,7 +108,7 @@ begun_here view exchange exchanges after bodies name object (Ends is none) ended
     subst (λ (u : UploadValue). IsAmong (sent_in u.stream) name object) (sym (ap (λ o. fed (open_upload o) bodies) none ∙ pieces_join [] bodies)) among
 begun_here view exchange exchanges after bodies name object (GoesOn body part goes) ended among = (let both : true ≡ false = sym ended ∙ part_or_end exchange body part in absurd (cc))
 
--- what was sent into an upload that goes on behind this exchange
+-- what was sent into an upload that goes on after this exchange
 gone_on_here : (view : View) (exchange : Exchange) (after : Option UploadValue) (bodies later : List (List ℕ)) (name : List ℕ) (object : Object) → IsUploadFrom view exchange after → ends_upload exchange ≡ false → bodies ≡ part_in exchange ++ later
     → IsAmong (sent_in (fed (open_upload view.upload) bodies).stream) name object → IsAmong (sent_in (fed (open_upload after) later).stream) name object
 gone_on_here view exchange after bodies later name object (Stays part no_end stays) on whole among =
@@ -119,7 +119,7 @@ gone_on_here view exchange after bodies later name object (GoesOn body part goes
     subst (λ (u : UploadValue). IsAmong (sent_in u.stream) name object)
     (ap (fed (open_upload view.upload)) (whole ∙ ap (λ front. front ++ later) part) ∙ ap (λ o. fed (open_upload o) later) (sym goes)) among
 
--- behind the first answer, or later
+-- after the first answer, or later
 shown_next : (context : Context) (view : View) (ask : Ask) (asked : List Meeting) (exchanges : List Exchange) (name : List ℕ) (object : Object) → (WasSent (answer context view ask).1 exchanges name object → WasShown (answer context view ask).1 asked name)
     → WasSent view ((ask, (answer context view ask).0) ∷ exchanges) name object → WasShown view ((context, ask) ∷ asked) name
 shown_next context view ask asked exchanges name object later (InPush repository body (zero, few, is) among) = pushed_here context view ask asked repository body name object is among
@@ -150,7 +150,7 @@ no_exchange : (front behind : List Exchange) (exchange : Exchange) → [] ≡ fr
 no_exchange [] behind exchange is = cc
 no_exchange (first ∷ front) behind exchange is = cc
 
--- who asks nothing sent nothing, whatever upload is open
+-- a tenant that asks nothing sent nothing, whatever upload is open
 pub silence_sends_nothing : (view : View) (name : List ℕ) (object : Object) → WasSent view [] name object → ⊥
 silence_sends_nothing view name object (InPush repository body (k, few, is) among) = omega arith
 silence_sends_nothing view name object (InParts front behind end bodies is ended are among) = no_exchange front behind end is
@@ -198,7 +198,7 @@ forked_here met view asked context giver repository copy name object is offered 
   subst (λ (m : Meeting). Shows name (answer m.0 view m.1)) (ap (λ (x : Meeting × Reply). x.0) (sym is)) (fork_shows context view giver repository copy name object offered) (ap (λ (x : Meeting × Reply). x.1) is),
 )
 
--- what stood in an offer that was forked was seen at some moment
+-- what was in a forked offer was seen at some moment
 pub offered_shown : (view : View) (asked : List Meeting) (name : List ℕ) (object : Object) → WasOffered asked (alone view asked).0 name object → WasShown view asked name
 offered_shown view [] name object was = absurd (by was.taken)
   where

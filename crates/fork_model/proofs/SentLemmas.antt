@@ -1,4 +1,4 @@
--- What a tenant sees, it saw before or sent itself: over whole runs.
+-- Over whole runs: a tenant sees what it saw before, sent itself, or forked.
 use Rattle.std.proofs.Common.{◌≡◌, ℕ, Bool, true, false, cond, List, [], ◌∷◌, Option, Some, None, refl, sym, ap, subst, ◌∙◌, inl, inr, ◌⊎◌}
 use Rattle.std.specs.Prelude.{◌++◌, Contains, not}
 use Rattle.std.specs.List.{zip}
@@ -26,14 +26,14 @@ use Rattle.fork_model.proofs.KeptLemmas.{here, there}
 use Rattle.fork_model.proofs.PartLemmas.{part_or_end}
 use Rattle.fork_model.proofs.ProvenanceLemmas.{object_from, upload_from}
 
--- an object was seen, or was sent in these exchanges, or stood in an offer that was met and forked
+-- an object was seen, or was sent in these exchanges, or was in an offer that was met and forked
 abbrev WasSeen : View → List Exchange → List Meeting → List Reply → List ℕ → Object → Type 0
 WasSeen view exchanges asked replies name object = (get view.objects name ≡ Some object) ⊎ (WasSent view exchanges name object ⊎ WasOffered asked replies name object)
 
 abbrev IsAt : List (Meeting × Reply) → Meeting × Reply → Type 0
 IsAt all one = Contains all one
 
--- what a host fault answers is neither a part nor an end
+-- a request that a host fault answers is neither a part nor an end
 fault_no_part : (ask : Ask) (reply : Reply) → is_host_fault reply ≡ true → part_in (ask, reply) ≡ []
 fault_no_part (SendsPart body) (Done text) bad = absurd (cc)
 fault_no_part ask reply bad = refl
@@ -43,7 +43,7 @@ fault_no_end (EndsParts repository) reply bad = ap not bad
 fault_no_end DropsParts reply bad = ap not bad
 fault_no_end ask reply bad = refl
 
--- an upload that goes on here, with what came before, which is no end
+-- an upload continues here, together with what came before, which is no end
 more_parts : (exchange : Exchange) (exchanges : List Exchange) (front bodies : List (List ℕ)) → part_in exchange ≡ front → ends_upload exchange ≡ false → AreParts exchanges bodies → AreParts (exchange ∷ exchanges) (front ++ bodies)
 more_parts exchange exchanges front bodies part no_end are = record {
   during = exchange ∷ are.during;
@@ -54,7 +54,7 @@ more_parts exchange exchanges front bodies part no_end are = record {
   whole = ap (λ all. front ++ all) are.whole ∙ ap (λ all. all ++ parts_in are.during) (sym part);
 }
 
--- what was sent into an upload that was open behind an answer
+-- what was sent into an upload that was open after an answer
 upload_sent : (view : View) (exchange : Exchange) (exchanges : List Exchange) (after : Option UploadValue) (bodies : List (List ℕ)) (name : List ℕ) (object : Object)
     → IsUploadFrom view exchange after → AreParts exchanges bodies → IsAmong (sent_in (fed (open_upload after) bodies).stream) name object → WasSent view (exchange ∷ exchanges) name object
 upload_sent view exchange exchanges after bodies name object (Stays part no_end stays) are among =
@@ -67,7 +67,7 @@ upload_sent view exchange exchanges after bodies name object (GoesOn body part g
     InUpload (body ∷ bodies) (more_parts exchange exchanges (body ∷ []) bodies part (part_or_end exchange body part) are)
     (subst (λ o. IsAmong (sent_in (fed (open_upload o) bodies).stream) name object) goes among)
 
--- what was sent behind an answer was sent from the view before it
+-- what was sent after an answer was sent from the view before it
 later_sent : (context : Context) (view : View) (ask : Ask) (exchanges : List Exchange) (name : List ℕ) (object : Object) → WasSent (answer context view ask).1 exchanges name object → WasSent view ((ask, (answer context view ask).0) ∷ exchanges) name object
 later_sent context view ask exchanges name object (InPush repository body asked among) = InPush repository body (there (ask, (answer context view ask).0) (Pushes repository body, Done []) exchanges asked) among
 later_sent context view ask exchanges name object (InParts front behind end bodies is ended are among) =
@@ -75,7 +75,7 @@ later_sent context view ask exchanges name object (InParts front behind end bodi
 later_sent context view ask exchanges name object (InUpload bodies are among) =
     upload_sent view (ask, (answer context view ask).0) exchanges (answer context view ask).1.upload bodies name object (upload_from context view ask) are among
 
--- an offer that was met behind a request was met along with it
+-- an offer that was met after a request was also met in the list that begins with it
 later_offered : (met : Meeting) (reply : Reply) (asked : List Meeting) (replies : List Reply) (name : List ℕ) (object : Object) → WasOffered asked replies name object → WasOffered (met ∷ asked) (reply ∷ replies) name object
 later_offered met reply asked replies name object was = record {
   context = was.context;
@@ -86,7 +86,7 @@ later_offered met reply asked replies name object was = record {
   offered = was.offered;
 }
 
--- what is seen behind the first answer
+-- what is seen after the first answer
 first_seen : (context : Context) (view : View) (ask : Ask) (reply : Reply) (exchanges : List Exchange) (asked : List Meeting) (replies : List Reply) (name : List ℕ) (object : Object) → IsFrom context view (ask, reply) name object
     → WasSeen view ((ask, reply) ∷ exchanges) ((context, ask) ∷ asked) (reply ∷ replies) name object
 first_seen context view ask reply exchanges asked replies name object (Seen was) = inl was
@@ -106,7 +106,7 @@ first_seen context view ask reply exchanges asked replies name object (Taken giv
       offered = offered;
     }))
 
--- what is seen behind an answer and further requests
+-- what is seen after an answer and further requests
 still_seen : (context : Context) (view : View) (ask : Ask) (exchanges : List Exchange) (asked : List Meeting) (replies : List Reply) (name : List ℕ) (object : Object) → WasSeen (answer context view ask).1 exchanges asked replies name object
     → WasSeen view ((ask, (answer context view ask).0) ∷ exchanges) ((context, ask) ∷ asked) ((answer context view ask).0 ∷ replies) name object
 still_seen context view ask exchanges asked replies name object (inl found) = first_seen context view ask (answer context view ask).0 exchanges asked replies name object (object_from context view ask name object found)
@@ -126,7 +126,7 @@ same_view a b is = cc
 no_view : (view : View) → None ≡ Some view → ⊥
 no_view view is = cc
 
--- what was sent stays sent where a host fault is met before
+-- what was sent stays sent if a host fault comes first
 more_sent : (view : View) (ask : Ask) (reply : Reply) (exchanges : List Exchange) (name : List ℕ) (object : Object) → is_host_fault reply ≡ true → WasSent view exchanges name object → WasSent view ((ask, reply) ∷ exchanges) name object
 more_sent view ask reply exchanges name object bad (InPush repository body asked among) = InPush repository body (there (ask, reply) (Pushes repository body, Done []) exchanges asked) among
 more_sent view ask reply exchanges name object bad (InParts front behind end bodies is ended are among) =
@@ -154,7 +154,7 @@ own_asked old mid t u ask reply view exchanges asked replies name object same (U
 own_asked old mid t u ask reply view exchanges asked replies name object same (Faulted bad stays) was rest =
     more_asked (met_by old u, ask) view reply exchanges asked replies name object bad (rest view (ap (λ w. get w t) stays ∙ was))
 
--- the same of a run of a host of many tenants, whatever faults it meets
+-- over a run of a host of many tenants, whatever faults occur
 pub run_seen_or_sent : (tenant : List ℕ) (old new : World) (steps : List Event) (replies : List Reply) (view last : View) (name : List ℕ) (object : Object)
     → (run : Explains old steps replies new) → get old tenant ≡ Some view → get new tenant ≡ Some last
     → get last.objects name ≡ Some object → WasSeen view (exchanges tenant steps replies) (met tenant old steps replies new run) (told tenant steps replies) name object

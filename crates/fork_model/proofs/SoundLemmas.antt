@@ -61,6 +61,6 @@ module _ (context : Context) where
   row_made view left changed row (Refuses why told kept) after = same_but changed view.made row.1.made (ap (λ (v : View). v.made) kept ∙ after)
   row_made view left changed row (Does text told made orderly right) after = made
 
-  -- the offers that a tenant has made are those that it had made, but for the one that the request changes
+  -- the offers that a tenant has made stay, except for the one that the request changes
   pub made_answer : (view : View) (ask : Ask) → SameBut (changed_by ask) view.made (answer context view ask).1.made
   made_answer view ask = row_made view (left_by view ask) (changed_by ask) (answer context view ask) (answer_row context view ask) (left_holds (λ v. v.made ≡ view.made) (λ v is. is) view ask refl)

@@ -50,7 +50,7 @@ orderly_insert world t view orderly here one others = record {
   to_others = to_others_still world t view orderly.to_others others;
 }
 
--- an answer without what is offered is the same, where no offer is taken
+-- an answer does not depend on what is offered, if no offer is taken
 unoffered : (context : Context) (view : View) (tenant : List ℕ) (ask : Ask) → takes_offer (Asks tenant ask) ≡ false → (answer context view ask).1 ≡ (answer (nothing_offered context.own) view ask).1
 unfolding answer offers_answer offer_answer withdraw_answer
 unoffered context view tenant (Inits repository) apart = refl
@@ -78,7 +78,7 @@ unoffered context view tenant NoRequest apart = refl
 unoffered context view tenant (MakesOffer repository receiver) apart = refl
 unoffered context view tenant (Withdraws repository receiver) apart = refl
 
--- in a sound world, of one object a name where an offer is taken, an answer leaves an orderly view
+-- in a sound world in which each name has only one object whenever an offer is taken, an answer leaves an orderly view
 orderly_here : (old : World) (t : List ℕ) (ask : Ask) (view : View) → (takes_offer (Asks t ask) ≡ true → IsAlike old × IsRightWorld old) → IsOrderlyWorld old → get old t ≡ Some view → IsOrderly (answer (met_by old t) view ask).1
 orderly_here old t ask view alike was here = by (takes_offer (Asks t ask)) refl
   where
@@ -129,7 +129,7 @@ sound_run old new [] (reply ∷ replies) run alike was = absurd run
 sound_run old new (step ∷ steps) [] run alike was = absurd run
 sound_run old new (step ∷ steps) (reply ∷ replies) run alike was = sound_run run.0 new steps replies run.2 alike.1 (sound_step old run.0 step reply alike.0 was run.1)
 
--- where no offer is taken names, kinds, lengths, references and limits need nothing of what bytes decide
+-- if no offer is taken, what names, kinds, lengths, references and limits decide does not depend on what bytes decide
 pub orderly_run : (old new : World) (steps : List Event) (replies : List Reply) → Explains old steps replies new → AllByRecursion (λ step. takes_offer step ≡ false) steps → IsOrderlyWorld old → IsOrderlyWorld new
 orderly_run old new [] [] run leaves was = subst IsOrderlyWorld (sym run) was
 orderly_run old new [] (reply ∷ replies) run leaves was = absurd run

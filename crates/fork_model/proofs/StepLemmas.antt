@@ -1,4 +1,4 @@
--- What a tenant's step leaves as it was.
+-- What a tenant's step leaves unchanged.
 use Rattle.std.proofs.Common.{◌≡◌, false, refl, sym, ap}
 use Rattle.fork_request.specs.Asked.{Ask, Inits, Drops, Forks, Pushes, SendsPart, EndsParts, DropsParts, Updates, SetsHead, MakesOffer, Withdraws, ForksOffer, AsksObject, AsksTree, AsksRevisions, AsksBases, AsksReferences, AsksHead, AsksOffers, AsksRepositories, Fetches, AsksUse, Prunes, NoRequest}
 use Rattle.fork_request.specs.Told.{is_done, is_host_fault}
@@ -20,13 +20,13 @@ row_tells view left row (Does text told made orderly right) = ap is_host_fault t
 pub answer_tells : (context : Context) (view : View) (ask : Ask) → is_host_fault (answer context view ask).0 ≡ false
 answer_tells context view ask = row_tells view (left_by view ask) (answer context view ask) (answer_row context view ask)
 
--- an answer that is no data leaves what a refusal leaves
+-- an answer without data leaves what a refusal leaves
 pub undone : (context : Context) (view : View) (ask : Ask) (reply : Reply) → reply ≡ (answer context view ask).0 → is_done reply ≡ false → (answer context view ask).1 ≡ left_by view ask
 undone context view ask (Done text) is not_done = absurd (cc)
 undone context view ask (Refused refusal) is not_done = refusal_keeps context view ask refusal (sym is)
 undone context view ask (Failed fault) is not_done = (let told = answer_tells context view ask in let no : ⊥ = cc (ap is_host_fault is) in absurd no)
 
--- which differs from the view in the upload at the most
+-- which differs from the view at most in the upload
 pub left_but_upload : (view : View) (ask : Ask) → without_upload (left_by view ask) ≡ without_upload view
 left_but_upload view (Inits repository) = refl
 left_but_upload view (Drops repository) = refl

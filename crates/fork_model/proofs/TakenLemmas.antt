@@ -1,4 +1,4 @@
--- A push without commands whose links are all resolved can be refused only by the limit; so can a push of what was fetched.
+-- A push without commands whose links are all met can be refused only by the limit; so can a push of what was fetched.
 use Rattle.std.proofs.Common.{◌≡◌, ℕ, ◌≤◌, not, Bool, true, false, cond, List, [], ◌∷◌, Option, None, Some, Ok, Err, refl, sym, ap, ap₂, subst, ◌∙◌, arith, map}
 use Rattle.std.specs.Prelude.{Contains, is_none, nat_lt}
 use Rattle.std.specs.List.{AllByRecursion, find}
@@ -35,7 +35,7 @@ use Rattle.fork_model.proofs.FetchedLemmas.{each_value, fetched_flow}
 use Rattle.fork_model.proofs.KeptLemmas.{met_alike}
 use Rattle.fork_model.proofs.TransferLemmas.{arrived}
 
--- where each link is met, none is missing and none is wrong
+-- if each link is met, none is missing and none is wrong
 known_kind : (found : Option Kind) (kind : Kind) → found ≡ Some kind → is_none found ≡ false
 known_kind found kind is = ap is_none is
 
@@ -62,7 +62,7 @@ no_link_refused : (objects : Objects) (links : List Link) → AllByRecursion (Is
 no_link_refused objects links met =
     ap₂ option_or (ap (option_map (λ (link : Link). Missing link.name)) (none_missing objects links met)) (ap (option_map (λ (link : Link). WrongType link.name)) (none_wrong objects links met))
 
--- right references stay as they are where no command is given
+-- valid references stay as they are without commands
 not_many : (n : ℕ) → n ≤ 4096 → cond (nat_lt 4096 n) (Some TooMany) None ≡ None
 not_many n few = ap (λ b. cond b (Some TooMany) None) (few_is n few)
   where
@@ -79,7 +79,7 @@ all_under : (objects : Objects) (names : List (List ℕ)) → AllByRecursion (λ
 all_under objects [] met = tt
 all_under objects (name ∷ names) met = joined (IsMet objects) (links_of_found (get objects name)) (links_under objects names) met.0 (all_under objects names met.1)
 
--- what a push without commands comes to, where each link is met
+-- the verdict on a push without commands, if each link is met
 judged_met : (seen objects : Objects) (old : References) (limit : ℕ) (names : List (List ℕ)) → AreReferences seen old → AllByRecursion (IsMet objects) (links_under objects names)
     → judged objects old limit (Ok ([], names)) ≡ cond (nat_lt limit (use_of objects)) (Err OverQuota) (Ok old)
 unfolding judged
@@ -106,7 +106,7 @@ fetched_met receiver view wanted excluded right has =
     (next_reached (linked_names view.objects) view.objects wanted name other reached (subst (λ o. Contains (map (λ link. link.name) (links_of_found o)) other) (sym is) at) there))
     (right.closed name object is)))))
 
--- so a push of it is refused by the limit alone
+-- so only the limit can refuse a push of it
 pub fetched_judged : (receiver sender : View) (wanted excluded : List (List ℕ)) (old : References) → IsRight sender → HasPrerequisites receiver.objects sender.objects excluded → AreReferences receiver.objects old
     → judged (received receiver.objects sender.objects wanted excluded) old receiver.limit (Ok ([], map object_name (fetched_objects sender.objects wanted excluded)))
     ≡ cond (nat_lt receiver.limit (use_of (received receiver.objects sender.objects wanted excluded))) (Err OverQuota) (Ok old)

@@ -77,7 +77,7 @@ commit_unseen_of objects repository name item is = by (object_of_item objects re
     by (Ok n) at tells = absurd (never n (peeled objects n) tells)
     by (Err refusal) at tells = unseen_of objects repository name item (at ∙ tells)
 
--- a row that tells what was found tells a refusal of it
+-- if the reply to what was found is a refusal, the refusal was found
 pub refused_of : (r : Result (List ℕ) Refusal) (refusal : Refusal) → reply_of r ≡ Refused refusal → r ≡ Err refusal
 refused_of (Ok text) refusal is = absurd (cc)
 refused_of (Err other) refusal is = (let same : other ≡ refusal = cc in ap Err same)
@@ -110,7 +110,7 @@ pub fetched_selected : (r : Result Selection Refusal) (objects : Objects) (name 
 fetched_selected (Ok selection) objects name is = absurd (cc)
 fetched_selected (Err refusal) objects name is = (let same : refusal ≡ Missing name = cc in ap Err same)
 
--- of both words of `merge-base` the one that decided
+-- the word of `merge-base` that decided
 pub bases_lack_of : (objects : Objects) (repository : Repository) (a b name : List ℕ) → bases_told objects repository a b ≡ Err (Missing name) → LacksItem objects repository (commit_of_item objects repository) (a ∷ b ∷ []) name
 unfolding bases_told
 bases_lack_of objects repository a b name is = by (commit_of_item objects repository a) (commit_of_item objects repository b) refl refl is

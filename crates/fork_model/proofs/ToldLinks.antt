@@ -51,7 +51,7 @@ stream_word (stream.WrongName n) name is = cc
 stream_word (stream.BadObject n) name is = cc
 stream_word stream.Truncated name is = cc
 
--- what a push lacks that is told `missing`
+-- what a push lacks if its reply is `missing`
 sent_of : (objects : Objects) (old : References) (limit : ℕ) (commands : List Command) (sent : List Object) (refusal : PushRefusal) (name : List ℕ) → judged (with_objects objects sent) old limit (Ok (commands, map object_name sent)) ≡ Err refusal
     → push_refusal refusal ≡ Missing name → LacksSent objects commands sent name
 unfolding judged

@@ -30,7 +30,7 @@ use Rattle.fork_model.proofs.ToldItems.{bases_lack_of, commit_unseen_of, fetched
 use Rattle.fork_model.proofs.ToldLinks.{push_of, upload_of_end}
 use Rattle.fork_model.proofs.ToldTargets.{moved_of}
 
--- a row that never tells `missing`
+-- a row whose reply is never `missing`
 abbrev Never : List ℕ → Reply × View → Type 0
 Never name row = row.0 ≡ Refused (Missing name) → ⊥
 
@@ -86,7 +86,7 @@ fork_offered_row view name key copy (Some offer) =
     (either name (nat_le 256 (len view.repositories)) (Refused TooMany, view) _ (λ tells. cc)
     (either name (nat_lt view.limit (use_of (joined view.objects offer.objects))) (Refused OverQuota, view) _ (λ tells. cc) (λ tells. cc)))
 
--- request by request
+-- for each request
 pub missing_of : (context : Context) (view : View) (name : List ℕ) (ask : Ask) → (answer context view ask).0 ≡ Refused (Missing name) → IsMissing view name ask
 unfolding answer offer_answer withdraw_answer fork_offer_answer offers_answer init_answer drop_answer fork_answer push_answer part_end_answer update_answer set_head_answer cat_file_answer ls_tree_answer rev_list_answer merge_base_answer fetch_answer references_answer head_answer quota_answer repositories_answer prune_answer object_told tree_told revisions_told fetch_told
 missing_of context view name (AsksObject asked) is = object_of view.objects asked name (get view.objects asked) refl is
@@ -143,7 +143,7 @@ missing_of context view name NoRequest is = cc
 some_same : (a b : View) → Some a ≡ Some b → a ≡ b
 some_same a b is = cc
 
--- in a step of any world that has this view for the tenant
+-- in a step from any world in which the tenant has this view
 pub missing_step : (old new : World) (t : List ℕ) (view : View) (name : List ℕ) (ask : Ask) → get old t ≡ Some view → Steps old (Asks t ask) (Refused (Missing name)) new → IsMissing view name ask
 missing_step old new t view name ask here (Answered other there tells set) =
     missing_of (met_by old t) view name ask (ap (λ v. (answer (met_by old t) v ask).0) (some_same view other (sym here ∙ there)) ∙ sym tells)

@@ -28,7 +28,7 @@ use Rattle.fork_model.specs.View.{View}
 use Rattle.fork_model.proofs.LackingLemmas.{none_unless, some_not_none}
 use Rattle.fork_model.proofs.TransferLemmas.{came}
 
--- what is not there is neither seen nor sent
+-- what does not exist is neither seen nor sent
 pub both_lacking : (objects : Objects) (sent : List Object) (name : List ℕ) → get (with_objects objects sent) name ≡ None → IsLacking objects sent name
 both_lacking objects sent name absent = record {
   unseen = none_unless (get objects name) (λ object is. some_not_none object (sym (kept_all objects sent name (ap is_some is) ∙ is) ∙ absent));
@@ -67,7 +67,7 @@ deciding judge (x ∷ commands) refusal is = by (judge x) refl is (deciding judg
         }
     by (Some other) at tells rest = record { command = x; first = record { before = []; behind = commands; parts = refl; passed = tt }; refused = at ∙ tells }
 
--- no other judge tells `missing`
+-- no other test reports `missing`
 one_word : (b : Bool) (refusal other : TxRefusal) → (refusal ≡ other → ⊥) → cond b (Some refusal) None ≡ Some other → ⊥
 one_word true refusal other differ is = differ (cc)
 one_word false refusal other differ is = cc
@@ -105,7 +105,7 @@ target_of objects sent (Point n) name is = by (is_none (kind_in (with_objects ob
 target_of objects sent Keep name is = absurd (cc)
 target_of objects sent Remove name is = absurd (cc)
 
--- a transaction that tells `missing` lacks the target
+-- a transaction that reports `missing` lacks the target
 target_lacking_of : (objects : Objects) (sent : List Object) (old : References) (commands : List Command) (name : List ℕ) → refusal_of old commands (kind_in (with_objects objects sent)) ≡ Some (tx.Missing name) → LacksTarget objects sent commands name
 target_lacking_of objects sent old commands name is = bad (first_refusal bad_ref commands) refl is
   where

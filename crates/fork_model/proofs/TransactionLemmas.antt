@@ -22,7 +22,7 @@ use Rattle.fork_reach.specs.Source.{Objects, kind_in}
 use Rattle.fork_model.specs.Sound.{IsReference, AreReferences}
 use Rattle.fork_reach.proofs.KeptObjects.{at_key, tied_names}
 
--- neither, where there is none of both
+-- if `option_or` of two is `None`, both are
 none_of_both : {X : Type 0} (a b : Option X) → option_or a b ≡ None → (a ≡ None) × (b ≡ None)
 none_of_both None b is = (refl, is)
 none_of_both (Some x) b is = absurd (cc)
@@ -44,11 +44,11 @@ some_kind : (o : Option Object) → is_some (option_map (λ object. object.kind)
 some_kind None is = absurd (cc)
 some_kind (Some object) is = refl
 
--- what a reference may be, for each reference
+-- each reference is valid
 abbrev Each : Objects → References → Type 0
 Each objects references = (reference target : List ℕ) → get references reference ≡ Some target → IsReference objects reference target
 
--- a change leaves right references
+-- a change leaves valid references
 each_changed : (objects : Objects) (references : References) (name : List ℕ) (change : Change) → Each objects references
     → ((target : List ℕ) → change ≡ Point target → IsReference objects name target) → Each objects (changed_by name change references)
 each_changed objects references name Keep each right = each
@@ -64,7 +64,7 @@ each_changed objects references name (Point new) each right = λ reference targe
       | inr there ↦ each reference target there
     ]
 
--- a command that no demand on its object refuses
+-- a command that no test refuses sets a valid reference
 command_right : (objects : Objects) (command : Command) → Transaction.bad_ref command ≡ None
     → Transaction.missing_object (kind_in objects) command.change ≡ None
     → Transaction.not_a_commit (kind_in objects) (is_branch command.reference) command.change ≡ None
@@ -118,7 +118,7 @@ ok_of : (refusal : Option TxRefusal) (new other : References) → Transaction.un
 ok_of None new other is = (refl, cc)
 ok_of (Some refusal) new other is = absurd (cc)
 
--- where it is carried out
+-- if the transaction is carried out
 pub sound_transacted : (objects : Objects) (old new : References) (commands : List Command) → AreReferences objects old
     → transacted old commands (kind_in objects) ≡ Ok new → AreReferences objects new
 unfolding transacted

@@ -28,7 +28,7 @@ some_same a b is = cc
 pub none_there : {X : Type 0} (o : Option X) → o ≡ None → is_some o ≡ true → ⊥
 none_there o is there = (let no : false ≡ true = ap is_some (sym is) ∙ there in cc)
 
--- an object that comes is there under its name
+-- an object that was added is found under its name
 came_one : (objects : Objects) (object : Object) → contains_key (with_object objects object) (object_name object) ≡ true
 came_one objects object = by (contains_key objects (object_name object)) refl
   where
@@ -45,7 +45,7 @@ came objects (more ∷ sent) object (zero, few, is) =
     ap is_some (kept_all (with_object objects more) sent (object_name object) there) ∙ there
 came objects (more ∷ sent) object (suc k, few, is) = came (with_object objects more) sent object (k, omega arith, is)
 
--- what is found under a name of the sender is the sender's object, where the receiver's are the same
+-- under a name of the sender the sender's object is found, if the receiver's objects are the same
 found_alike : (receiver sender : Objects) (sent : List Object)
     → HoldTheSame sender receiver
     → AllByRecursion (λ object. get sender (object_name object) ≡ Some object) sent
@@ -90,7 +90,7 @@ arrives receiver view wanted excluded right has name reached = by (is_reached (l
         let among = found_value name_cmp name object (entries (retain_keys view.objects kept)) (sym (get-entries (retain_keys view.objects kept) name) ∙ beyond_is) in
         ap (contains_key (received receiver view.objects wanted excluded)) (sym (right.named name object is)) ∙ came receiver (fetched_objects view.objects wanted excluded) object among
 
--- so under each name that the wanted ones reach stands the sender's object
+-- so under each name that the wanted names reach is the sender's object
 pub arrived : (receiver : Objects) (view : View) (wanted excluded : List (List ℕ)) → IsRight view → HasPrerequisites receiver view.objects excluded
     → (name : List ℕ) → is_reached (linked_names view.objects) view.objects wanted name ≡ true → get (received receiver view.objects wanted excluded) name ≡ get view.objects name
 arrived receiver view wanted excluded right has name reached =

@@ -18,7 +18,7 @@ use Rattle.fork_model.proofs.ClosedLemmas.{each_of}
 use Rattle.fork_model.proofs.ProvenanceLemmas.{among_both}
 use Rattle.fork_model.proofs.TransferLemmas.{came, none_there}
 
--- each object is found by what was told of it
+-- each object is found by what is known of it
 pub found_again : (objects : Objects) (sent : List Object) → AllByRecursion (λ object. get objects (object_name object) ≡ Some object) sent → map (object_sent objects) (map sent_of sent) ≡ sent
 found_again objects [] each = refl
 found_again objects (object ∷ sent) each =
@@ -34,7 +34,7 @@ stream_again objects (Breaks fault) each = refl
 pub upload_again : (bytes : List ℕ) (objects : Objects) → AreSent objects (sent_in (stream_of bytes)) → upload_among objects (reading_of bytes) ≡ upload_of bytes
 upload_again bytes objects are = ap (λ stream. record { count = length bytes; stream = stream }) (stream_again objects (stream_of bytes) are.each)
 
--- beside what is seen they are what came
+-- beside what is seen, these are the objects that were added
 beside_at : (seen objects : Objects) (sent : List Object) → AreSent objects sent → (name : List ℕ) → get (with_objects seen sent) name ≡ option_or (get seen name) (get objects name)
 beside_at seen objects sent are name = by (get seen name) refl
   where

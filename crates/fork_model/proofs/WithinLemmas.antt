@@ -1,4 +1,4 @@
--- What a stream holds is no longer than a host takes, and pieces add nothing longer.
+-- A stream holds no object longer than a host takes, and pieces add none.
 use Rattle.std.proofs.Common.{◌≡◌, ℕ, zero, suc, ◌-◌, ◌≤◌, Bool, true, false, cond, eqb, List, [], ◌∷◌, ◌++◌, Option, None, Some, Result, Ok, Err, refl, arith, is_some, length, take, drop, nat_lt}
 use Rattle.std.specs.Prelude.{⊤}
 use Rattle.std.specs.Str.{bytes_eq}
@@ -106,7 +106,7 @@ with_within (Flows commands objects true rest) piece are = behind_within command
 with_within (Flows commands objects false rest) piece are = behind_within commands objects (header_in (MAX_COMMANDS - length commands) (rest ++ piece)) are (header_within (MAX_COMMANDS - length commands) (rest ++ piece))
 with_within (Breaks fault) piece are = tt
 
--- and what an upload holds behind one more piece
+-- and what an upload holds after one more piece
 pub continued_within : (upload : UploadValue) (piece : List ℕ) → AreWithin (sent_in upload.stream) → AreWithin (sent_in (continued upload piece).stream)
 unfolding continued
 continued_within upload piece are = with_within upload.stream piece are

@@ -13,7 +13,7 @@ is_equal Equal h = refl
 is_equal Greater h = cc
 
 module _ {K X : Type 0} {R : K → K → Ordering} (total : IsTotalOrder R) (exact : IsAntisymmetric R) where
-  -- to set what is there changes nothing
+  -- setting the value that is already there changes nothing
   pub insert_same : (m : FinMap R X) (k : K) (v : X) → get m k ≡ Some v → insert m k v ≡ m
   insert_same m k v here = same_map total exact _ _ (λ q. get-insert total m k v q ∙ at q (eq_by_cmp R q k) refl)
     where
@@ -22,7 +22,7 @@ module _ {K X : Type 0} {R : K → K → Ordering} (total : IsTotalOrder R) (exa
       at q false e = refl
 
 module _ {Tenant View Context Ask HostAsk Reply : Type 0} (cmp : Tenant → Tenant → Ordering) (total : IsTotalOrder cmp) (exact : IsAntisymmetric cmp) (meets : FinMap cmp View → Tenant → Context) (answer : Context → View → Ask → Reply × View) (unknown : Reply) (is_fault : Reply → Bool) (HostSays : FinMap cmp View → HostAsk → Reply → Type 0) where
-  -- a tenant that is answered from its view, and whose view alone is set, makes a step
+  -- a tenant that is answered from its view, and whose view is the only one that is set, makes a step
   pub answered : (old new : FinMap cmp View) (t : Tenant) (ask : Ask) (view : View) (reply : Reply) (view' : View) → get old t ≡ Some view → Answers answer is_fault (meets old t) view ask reply view' → new ≡ insert old t view' → TenantStep cmp meets answer unknown is_fault old t ask reply new
   answered old new t ask view reply view' here (Told told is) set = Answered view here told (set ∙ ap (insert old t) is)
   answered old new t ask view reply view' here (Failed bad stays) set = Faulted bad (set ∙ (ap (insert old t) stays ∙ insert_same total exact old t view here))

@@ -124,7 +124,7 @@ taken view word old objects (Ok references) =
     (Done [], record view { repositories = insert view.repositories word (record old { references = references }); objects = objects })
 taken view word old objects (Err refusal) = (Refused (push_refusal refusal), view)
 
--- what a push of a stream that is at its end does
+-- the answer to a push of a stream that is at its end
 abbrev pub pushed : View → List ℕ → Repository → Finished → Reply × View
 pushed view word old held = taken view word old (both view held) (judged (both view held) old.references view.limit (brief_of held))
 
@@ -136,7 +136,7 @@ push_into view word body (Some old) = if is_some view.upload then (Refused Uploa
 unfoldable pub push_answer : View → List ℕ → List ℕ → Reply × View
 push_answer view word body = named_repository view word (push_into view word body (get view.repositories word))
 
--- the upload that is open, or one of which nothing was received yet
+-- the open upload, or one that has received nothing yet
 abbrev pub open_upload : Option UploadValue → UploadValue
 open_upload (Some upload) = upload
 open_upload None = upload_of []
@@ -207,7 +207,7 @@ set_head_answer view word reference = named_repository view word (set_head_in vi
 abbrev pub named_receiver : Context → View → List ℕ → Reply × View → Reply × View
 named_receiver context view word row = if is_plain_name MAX_TENANT_NAME word && not (same_name word context.own) then row else (Refused (BadName word), view)
 
--- one more offer of a repository as it is, if there is none of it to the receiver and there is room for it
+-- one more offer of a repository as it is, if none of it was made to the receiver and there is room for it
 abbrev pub offer_added : View → Pair → Repository → Reply × View
 offer_added view key repository =
     if contains_key view.made key then (Refused (OfferExists key.0 key.1), view)
@@ -218,7 +218,7 @@ abbrev pub offer_in : View → List ℕ → List ℕ → Option Repository → R
 offer_in view word receiver None = (Refused (NoRepository word), view)
 offer_in view word receiver (Some repository) = offer_added view (receiver, word) repository
 
--- `offer REPO TENANT`: an offer of the repository as it is; whether there is such a tenant makes no difference
+-- `offer REPO TENANT`: an offer of the repository as it is; whether the receiver exists makes no difference
 unfoldable pub offer_answer : Context → View → List ℕ → List ℕ → Reply × View
 offer_answer context view word receiver = named_repository view word (named_receiver context view receiver (offer_in view word receiver (get view.repositories word)))
 
@@ -276,7 +276,7 @@ cat_file_answer view name = (reply_of (object_told view.objects name), view)
 unfoldable pub ls_tree_answer : View → List ℕ → Reply × View
 ls_tree_answer view name = (reply_of (tree_told view.objects name), view)
 
--- what is asked about a repository that exists
+-- the answer to a query about a repository, if it exists
 abbrev pub told_over : List ℕ → (Repository → Result (List ℕ) Refusal) → Option Repository → Reply
 told_over word query None = Refused (NoRepository word)
 told_over word query (Some repository) = reply_of (query repository)
@@ -328,7 +328,7 @@ targets_of repositories = flat_map (λ repository. values repository.references)
 abbrev pub targets_made : Offers → List (List ℕ)
 targets_made made = flat_map (λ offer. values offer.repository.references) (values made)
 
--- where pruning starts: at the references of repositories, and at those of offers that exist
+-- the roots of pruning: the targets of references of repositories, and of offers that exist
 abbrev pub roots_of : View → List (List ℕ)
 roots_of view = targets_of view.repositories ++ targets_made view.made
 
@@ -339,7 +339,7 @@ pruned view = record view { objects = retain_keys view.objects (is_reached (link
 unfoldable pub prune_answer : View → Reply × View
 prune_answer view = (Done [], pruned view)
 
--- the reply to a request of a tenant that meets this, and the view afterwards
+-- the reply to a tenant's request in this context, and the view afterwards
 unfoldable pub answer : Context → View → Ask → Reply × View
 answer context view (Inits repository) = init_answer view repository
 answer context view (Drops repository) = drop_answer view repository
@@ -366,7 +366,7 @@ answer context view AsksUse = quota_answer view
 answer context view Prunes = prune_answer view
 answer context view NoRequest = (Refused BadRequest, view)
 
--- what a refusal leaves: the view, and without the upload if its end was asked for
+-- what a refusal leaves: the view, without the upload if its end was asked for
 abbrev pub left_by : View → Ask → View
 left_by view (EndsParts repository) = without_upload view
 left_by view ask = view

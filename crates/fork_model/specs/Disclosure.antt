@@ -15,13 +15,13 @@ pub data Happening : Type 0 where
   Asked : (ask : Ask) → Happening
   Changes : (key : Pair) (offer : Option Offer) → Happening
 
--- the repository of which an offer is made or withdrawn
+-- the repository whose offer is made or withdrawn
 abbrev pub word_of : Ask → List ℕ
 word_of (MakesOffer repository receiver) = repository
 word_of (Withdraws repository receiver) = repository
 word_of ask = []
 
--- the change of what a tenant is offered by a request of this giver, which leads to this world
+-- how a request of this giver, which leads to this world, changes what a tenant is offered
 abbrev pub change_in : List ℕ → List ℕ → Ask → Reply → World → List Happening
 change_in tenant giver ask reply world = cond (deals_with tenant (Runs.Asks giver ask) reply) (Changes (giver, word_of ask) (get (offered_to world tenant) (giver, word_of ask)) ∷ []) []
 
@@ -33,12 +33,12 @@ happenings tenant old (Runs.HostAsks ask ∷ steps) (reply ∷ replies) new run 
 happenings tenant old [] replies new run = []
 happenings tenant old (step ∷ steps) [] new run = []
 
--- offers with another one under a key, or with none there
+-- offers with this one under a key, or with none there
 abbrev pub with_change : Offers → Pair → Option Offer → Offers
 with_change offers key (Some offer) = insert offers key offer
 with_change offers key None = remove offers key
 
--- what a tenant asks among what happens to it, in order, each with what it meets, if it meets this at first
+-- a tenant's requests among what happens to it, in order, each with what it meets, if it meets this at first
 abbrev pub met_along : Context → List Happening → List Meeting
 met_along context [] = []
 met_along context (Asked ask ∷ more) = (context, ask) ∷ met_along context more

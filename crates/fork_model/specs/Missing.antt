@@ -96,8 +96,7 @@ pub record InRepository (view : View) (word : List ℕ) (Holds : Repository → 
   pub found : get view.repositories word ≡ Some repository
   pub holds : Holds repository
 
--- a request names an object that a tenant of this view lacks, and nothing is wrong with the request before; other requests name
--- none
+-- a request names an object that a tenant of this view lacks, and nothing earlier is wrong with the request; other requests name none
 abbrev pub IsMissing : View → List ℕ → Ask → Type 0
 IsMissing view name (AsksObject asked) = (asked ≡ name) × (get view.objects name ≡ None)
 IsMissing view name (AsksTree asked) = (asked ≡ name) × (get view.objects name ≡ None)

@@ -1,4 +1,4 @@
--- Where objects come from (own): what a tenant sees, it saw before or sent itself.
+-- Where objects come from (own): a tenant sees what it saw before, what it sent itself, and what was in offers that it forked.
 use Rattle.std.specs.Prelude.{◌≡◌, ℕ, Bool, false, true, not, List, [], ◌∷◌, ◌++◌, Option, None, Some, Contains}
 use Rattle.std.specs.FinMap.{contains_key, get}
 use Rattle.std.specs.List.{AllByRecursion, concat, flat_map, zip}
@@ -26,7 +26,7 @@ pub record IsOffered (context : Context) (giver repository name : List ℕ) (obj
   pub stands : get context.offered (giver, repository) ≡ Some offer
   pub holds : get offer.objects name ≡ Some object
 
--- where an object comes from that is seen after an answer
+-- where an object that is seen after an answer comes from
 pub data IsFrom (context : Context) (view : View) (exchange : Exchange) (name : List ℕ) (object : Object) : Type 0 where
   -- it was seen before
   Seen : get view.objects name ≡ Some object → IsFrom context view exchange name object
@@ -52,7 +52,7 @@ ends_upload (EndsParts repository, reply) = not (is_host_fault reply)
 ends_upload (DropsParts, reply) = not (is_host_fault reply)
 ends_upload exchange = false
 
--- where an upload comes from that is open after an answer
+-- where the upload that is open after an answer comes from
 pub data IsUploadFrom (view : View) (exchange : Exchange) (upload : Option UploadValue) : Type 0 where
   -- no part was received and nothing ended it: it is the one that was open, or none was
   Stays : part_in exchange ≡ [] → ends_upload exchange ≡ false → upload ≡ view.upload → IsUploadFrom view exchange upload
@@ -80,7 +80,7 @@ pub data WasSent (view : View) (exchanges : List Exchange) (name : List ℕ) (ob
   -- it is in the upload that was open at first, or in an empty one if none was, and in all parts that continued it
   InUpload : (bodies : List (List ℕ)) → AreParts exchanges bodies → IsAmong (sent_in (fed (open_upload view.upload) bodies).stream) name object → WasSent view exchanges name object
 
--- this is one of a tenant's requests, each with what it meets and the reply
+-- this request, with what it meets and this reply, is one of the tenant's
 abbrev pub IsAnsweredAmong : List Meeting → List Reply → Meeting → Reply → Type 0
 IsAnsweredAmong asked replies met reply = Contains (zip asked replies) (met, reply)
 

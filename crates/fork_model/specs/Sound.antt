@@ -1,5 +1,5 @@
--- Sound views (own): in order, which is that references name existing objects and the limits hold; and right, which is that objects
--- are under their own names, are in their grammars and link to existing objects.
+-- Sound views (own). A view is in order if references name existing objects and the limits hold. It is right if objects are under
+-- their own names, are in their grammars and link to existing objects.
 use Rattle.std.specs.Prelude.{◌≡◌, ◌≢◌, ℕ, ◌≤◌, Bool, true, false, List, [], ◌∷◌, Some, None, ⊤}
 use Rattle.fork_request.specs.declared.limit.TheConstants.{MAX_LIMIT}
 use Rattle.git_reftx.specs.declared.transact.TheConstants.{MAX_REFERENCES}
@@ -89,7 +89,7 @@ pub record IsSound (view : View) : Type 0 where
   pub orderly : IsOrderly view
   pub right : IsRight view
 
--- what is offered may be taken by a tenant that sees these objects: HEAD names a branch, and the references hold over all that is seen then
+-- a tenant that sees these objects may take what is offered: HEAD names a branch, and the references hold over all that is seen then
 abbrev pub MayTake : Context → Objects → Type 0
 MayTake context objects = (key : Pair) (offer : Offer) → get context.offered key ≡ Some offer → IsBranch offer.repository.head × AreReferences (joined objects offer.objects) offer.repository.references
 
@@ -99,7 +99,7 @@ pub record AreSoundObjects (objects : Objects) : Type 0 where
   pub right : AreRight objects
   pub closed : IsClosed objects
 
--- and what is seen then is sound
+-- and all that is seen then is sound
 abbrev pub IsSoundBeside : Context → Objects → Type 0
 IsSoundBeside context objects = (key : Pair) (offer : Offer) → get context.offered key ≡ Some offer → AreSoundObjects (joined objects offer.objects)
 
@@ -118,7 +118,7 @@ pub record IsOrderlyWorld (world : World) : Type 0 where
 abbrev pub IsRightWorld : World → Type 0
 IsRightWorld world = (tenant : List ℕ) (view : View) → get world tenant ≡ Some view → IsRight view
 
--- the world has one object of one name
+-- each name has only one object in the world
 abbrev pub IsAlike : World → Type 0
 IsAlike world = (tenant other name : List ℕ) (view another : View) (object same : Object) → get world tenant ≡ Some view → get world other ≡ Some another
     → get view.objects name ≡ Some object → get another.objects name ≡ Some same → object ≡ same
@@ -133,8 +133,8 @@ abbrev pub takes_offer : Event → Bool
 takes_offer (Runs.Asks tenant (ForksOffer giver repository copy)) = true
 takes_offer event = false
 
--- whenever an offer is taken in a run, the world has one object of one name: names are hashes, and no two objects of one name are
--- known
+-- whenever an offer is taken in a run, each name has only one object in the world: names are hashes, and no two objects of one
+-- name are known
 abbrev pub IsAlikeWhereTaken : (old : World) (steps : List Event) (replies : List Reply) (new : World) → Explains old steps replies new → Type 0
 IsAlikeWhereTaken old (step ∷ steps) (reply ∷ replies) new run = (takes_offer step ≡ true → IsAlike old) × IsAlikeWhereTaken run.0 steps replies new run.2
 IsAlikeWhereTaken old [] replies new run = ⊤

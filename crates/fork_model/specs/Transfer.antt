@@ -34,7 +34,7 @@ pub record IsSendable (view : View) : Type 0 where
 abbrev pub AreSendableOffers : Context → Type 0
 AreSendableOffers context = (giver repository name : List ℕ) (object : Object) → IsOffered context giver repository name object → length object.bytes ≤ MAX_CONTENT
 
--- each view is such
+-- the objects of each view can be sent
 abbrev pub IsSendableWorld : World → Type 0
 IsSendableWorld world = (tenant : List ℕ) (view : View) → get world tenant ≡ Some view → IsSendable view
 
@@ -55,7 +55,7 @@ pub record HasPrerequisites (receiver sender : Objects) (excluded : List (List �
 abbrev pub received : Objects → Objects → List (List ℕ) → List (List ℕ) → Objects
 received receiver sender wanted excluded = with_objects receiver (fetched_objects sender wanted excluded)
 
--- the answer to a push without commands that only the limit may refuse
+-- the answer to a push without commands that only the limit can refuse
 abbrev pub within_quota : View → List ℕ → Repository → Objects → Reply × View
 within_quota view word repository objects =
     if nat_lt view.limit (use_of objects) then (Refused OverQuota, view)

@@ -16,7 +16,7 @@ pub record AreSent (objects : Objects) (sent : List Object) : Type 0 where
   pub each : AllByRecursion (λ object. get objects (object_name object) ≡ Some object) sent
   pub alone : (name : List ℕ) (object : Object) → get objects name ≡ Some object → IsAmong sent name object
 
--- one that was sent, among these objects; an empty one if it does not exist
+-- an object that was sent, found among these objects; an empty one if it does not exist
 abbrev pub object_sent : Objects → Sent → Object
 object_sent objects sent = unwrap_or (get objects sent.name) (record { kind = sent.kind; bytes = [] })
 

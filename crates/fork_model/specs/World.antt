@@ -30,8 +30,8 @@ Event = Runs.Event (List ℕ) Ask HostRequest
 abbrev pub number_line : ℕ → List ℕ
 number_line n = decimal n ++ codes "\n"
 
--- what may be reported about the host: how many names left its catalogue or are in it, and for a sweep no more than it looked at;
--- what is wrong with the files of objects. The store, and no world, determines which number and which harms these are. The figures
+-- what the host may report of itself: how many names left its catalogue or are in it, for a sweep at most as many as it looked at;
+-- and what is wrong with the files of objects. The store, not the world, determines this number and these harms. The figures
 -- of tenants are those of the world. A bad request is refused
 abbrev pub HostSays : World → HostRequest → Reply → Type 0
 HostSays world (Sweep most) reply = (n : ℕ) × (n ≤ most) × (reply ≡ Done (number_line n))
@@ -41,7 +41,7 @@ HostSays world Fsck reply = (harms : Harmed) × (reply ≡ Done (harm_lines harm
 HostSays world Tenants reply = reply ≡ Done (figure_lines world)
 HostSays world Bad reply = reply ≡ Refused BadRequest
 
--- one step may go from the old world to the new one with this reply
+-- one step can lead from the old world to the new one with this reply
 abbrev pub Steps : World → Event → Reply → World → Type 0
 Steps = Runs.Steps name_cmp met_by answer (Refused UnknownTenant) is_host_fault HostSays
 
@@ -53,7 +53,7 @@ Explains = Runs.Explains name_cmp met_by answer (Refused UnknownTenant) is_host_
 abbrev pub own : List ℕ → List Event → List Ask
 own = Runs.own name_cmp
 
--- what a tenant is told, in order
+-- the replies that a tenant gets, in order
 abbrev pub told : List ℕ → List Event → List Reply → List Reply
 told = Runs.told name_cmp
 
@@ -77,7 +77,7 @@ met = Runs.met name_cmp met_by answer (Refused UnknownTenant) is_host_fault Host
 abbrev pub meeting : Context → List Ask → List Meeting
 meeting = Runs.meeting
 
--- the replies and the last view of a private host, which has this view and no other tenant, and meets this with each request
+-- the replies and the last view of a private host that has this view and no other tenant, and meets this with each request
 abbrev pub alone : View → List Meeting → List Reply × View
 alone = Runs.alone answer
 
@@ -85,16 +85,16 @@ alone = Runs.alone answer
 abbrev pub AreFine : List Reply → Type 0
 AreFine = Runs.AreFine is_host_fault
 
--- none of the replies to the tenant is one
+-- none of the replies to the tenant is a host fault
 abbrev pub IsUnfaulted : List ℕ → List Event → List Reply → Type 0
 IsUnfaulted tenant steps replies = Runs.AreFine is_host_fault (told tenant steps replies)
 
--- both worlds show the tenant alike, and offer it the same
+-- the tenant has the same view, and is offered the same, in both worlds
 pub record Agree (tenant : List ℕ) (world other : World) : Type 0 where
   pub views : get world tenant ≡ get other tenant
   pub offers : offered_to world tenant ≡ offered_to other tenant
 
--- a tenant's own part in a step with which it meets this
+-- a tenant's own part in a step in which it meets this
 abbrev pub Answers : Context → View → Ask → Reply → View → Type 0
 Answers = Runs.Answers answer is_host_fault
 

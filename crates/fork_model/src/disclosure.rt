@@ -15,13 +15,13 @@ ghost use Rattle.fork_model.specs.Runs.{Asks};
 ghost use Rattle.fork_model.specs.View.{View};
 ghost use Rattle.fork_model.specs.World.{Agree, Event, Explains, IsUnfaulted, Steps, World, deals_with, met, told};
 
-/// Disclosure by offers. Take two runs from worlds that show a tenant alike and offer it the same, in
-/// which the same happens to it in the same order. Both runs tell it the same, and leave worlds that
-/// show it alike and offer it the same, whatever else the runs and the worlds are. What happens to a
-/// tenant is that it asks, and that offers to it are made and withdrawn: equal ones, at the same places
-/// between its requests. Two equal lists of happenings also agree on the order of changes at one place.
-/// `replies_met` and `views_met` require less: what it meets with each request is equal, in whatever
-/// order that came about. `worlds_met` adds only that both runs offer it the same in the end.
+/// Two runs in which no host fault answers a tenant give it the same replies, if the same happens to it in the same
+/// order, and both begin with the same view of it and the same offers to it. Both also end with the same view and
+/// offers, whatever else the runs and the worlds are. What happens to a tenant is that it asks, and that offers to it
+/// are made and withdrawn: equal ones, at the same places between its requests. Two equal lists of happenings also
+/// agree on the order of changes at one place. `replies_met` and `views_met` require less: the tenant meets the same
+/// with each request, in whatever order that came about. `worlds_met` adds only that both runs offer it the same in the
+/// end.
 pub fn offers_disclose_what_they_hold()
     ensures replies { (tenant : List ℕ) (old new : World) (steps : List Event) (replies : List Reply)
         (old2 new2 : World) (steps2 : List Event) (replies2 : List Reply)
@@ -65,8 +65,8 @@ pub fn what_happens_settles_what_is_met()
         → met tenant old steps replies new run ≡ met_along (met_by old tenant) (happenings tenant old steps replies new run) }
 {}
 
-/// A step that makes no offer to a tenant, and withdraws none, leaves what that tenant is offered. Any
-/// other step changes it under at most one key: the giver's name, and the repository that it names.
+/// A step that neither makes nor withdraws an offer to a tenant leaves what that tenant is offered. Any other step
+/// changes it under at most one key: the giver's name, and the repository that the request names.
 pub fn a_step_offers_what_it_deals_with()
     ensures apart { (tenant : List ℕ) (old new : World) (event : Event) (reply : Reply)
         → Steps old event reply new → deals_with tenant event reply ≡ false
@@ -87,9 +87,8 @@ pub fn forking_an_offer_tells_its_giver_nothing()
         → offered_to new receiver ≡ offered_to old receiver }
 {}
 
-/// A tenant that forks what is not offered to it gets the reply that there is no such offer, and its
-/// view stays. It gets the same reply whether or not there is such a giver, and whatever that one has
-/// or offers to others.
+/// A tenant that forks what is not offered to it gets the reply that there is no such offer, and its view stays. The
+/// reply does not depend on whether the giver exists, or on what the giver has or offers to others.
 pub fn an_offer_that_was_not_made_is_no_offer()
     ensures { (context : Context) (view : View) (giver repository copy : List ℕ)
         → is_plain_name MAX_TENANT_NAME giver ≡ true → is_plain_name MAX_REPOSITORY_NAME repository ≡ true → is_plain_name MAX_REPOSITORY_NAME copy ≡ true
@@ -97,9 +96,8 @@ pub fn an_offer_that_was_not_made_is_no_offer()
         → answer context view (ForksOffer giver repository copy) ≡ (Refused (NoOffer giver repository), view) }
 {}
 
-/// Only `offers` and `fork-offer` depend on what a tenant is offered: every other answer is the same,
-/// whatever that is. `offers` lists by whom and of which repositories offers are, and nothing that they
-/// hold; `fork-offer` depends on the one offer that it names.
+/// Only `offers` and `fork-offer` depend on what a tenant is offered: no other answer does. `offers` lists the givers
+/// and the repositories of offers, and nothing that they hold; `fork-offer` depends on the one offer that it names.
 pub fn offers_are_met_by_two_requests()
     ensures others { (context other : Context) (view : View) (ask : Ask) → context.own ≡ other.own → looks_at_offers ask ≡ false → answer context view ask ≡ answer other view ask }
     ensures listed { (context other : Context) (view : View) → keys context.offered ≡ keys other.offered → answer context view AsksOffers ≡ answer other view AsksOffers }
@@ -107,8 +105,8 @@ pub fn offers_are_met_by_two_requests()
         → answer context view (ForksOffer giver repository copy) ≡ answer other view (ForksOffer giver repository copy) }
 {}
 
-/// Only `offer` and `withdraw` change the offers that a tenant has made: every other answer leaves
-/// them. Each of the two leaves those to other receivers and of other repositories.
+/// Only `offer` and `withdraw` change the offers that a tenant has made: every other answer leaves them. Each of the
+/// two leaves the offers to other receivers and of other repositories.
 pub fn offers_are_changed_by_two_requests()
     ensures others { (context : Context) (view : View) (ask : Ask) → changes_offers ask ≡ false → (answer context view ask).1.made ≡ view.made }
     ensures made { (context : Context) (view : View) (repository receiver : List ℕ) (key : Pair) → key ≢ (receiver, repository)
@@ -117,8 +115,8 @@ pub fn offers_are_changed_by_two_requests()
         → get (answer context view (Withdraws repository receiver)).1.made key ≡ get view.made key }
 {}
 
-/// Adding a tenant, which has made no offer, changes nothing that is offered. So the others are offered
-/// what they were, and the new one meets from the start what was offered to its name before.
+/// Adding a tenant that has made no offer changes nothing that is offered. So the others are offered what they were,
+/// and the new one meets from the start what was offered to its name before.
 pub fn a_new_tenant_changes_no_offer()
     ensures { (world : World) (name receiver : List ℕ) (view : View) → get world name ≡ None → view.made ≡ empty
         → offered_to (insert world name view) receiver ≡ offered_to world receiver }

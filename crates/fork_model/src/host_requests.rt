@@ -16,8 +16,8 @@ pub fn bad_host_requests_are_refused()
     ensures world { (old new : World) (reply : Reply) → Steps old (HostAsks Bad) reply new → new ≡ old }
 {}
 
-/// Whatever is asked of the host itself leaves the world. A request that is not bad is answered, or
-/// reports a host fault. The figures that it reports about tenants are those of the world.
+/// A request of the host itself leaves the world. One that is not bad is answered, or gets a host fault. The figures
+/// that it reports about tenants are those of the world.
 pub fn host_requests_leave_the_world()
     ensures world { (old new : World) (request : HostRequest) (reply : Reply) → Steps old (HostAsks request) reply new → new ≡ old }
     ensures reply { (old new : World) (request : HostRequest) (reply : Reply) → Steps old (HostAsks request) reply new → request ≢ Bad → (is_done reply ≡ true) ⊎ (is_host_fault reply ≡ true) }

@@ -5,9 +5,9 @@ ghost use Rattle.fork_model.specs.View.{View};
 ghost use Rattle.fork_model.specs.World.{World, Event, Explains, IsUnfaulted, LeavesOffers, Agree, own, told, alone, meeting, met};
 ghost use Rattle.fork_model.specs.Context.{met_by};
 
-/// If no host fault answered a tenant, then what it is told, and its view afterwards, are those of a
-/// private host that holds this tenant alone and meets the same offers, whatever requests of others
-/// come in between. If no offer to it is made or withdrawn, the offers are those at the start.
+/// If no host fault answered a tenant, its replies and its view afterwards are those of a private host that holds this
+/// tenant alone and meets the same offers, whatever requests of others come in between. If no offer to it is made or
+/// withdrawn, these are the offers at the start.
 pub fn a_run_is_private()
     ensures replies { (tenant : List ℕ) (old new : World) (steps : List Event) (replies : List Reply) (view : View)
         → Explains old steps replies new → IsUnfaulted tenant steps replies → LeavesOffers tenant steps replies → get old tenant ≡ Some view
@@ -23,9 +23,9 @@ pub fn a_run_is_private()
         → get new tenant ≡ Some (alone view (met tenant old steps replies new run)).1 }
 {}
 
-/// Two runs from worlds that show a tenant alike and offer it the same, in which the tenant asks the
-/// same and no offer to it is made or withdrawn, tell it the same and leave worlds that show it alike
-/// and offer it the same, whatever else the runs and the worlds are.
+/// Two runs in which no host fault answers a tenant give it the same replies, if it asks the same in both, no offer to
+/// it is made or withdrawn, and both begin with the same view of it and the same offers to it. Both also end with the
+/// same view and offers, whatever else the runs and the worlds are.
 pub fn two_runs_agree()
     ensures replies { (tenant : List ℕ) (old new : World) (steps : List Event) (replies : List Reply)
         (old2 new2 : World) (steps2 : List Event) (replies2 : List Reply)

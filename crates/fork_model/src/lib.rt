@@ -1,6 +1,5 @@
-//! What a tenant sees of a host, what it is told, and the laws of runs: definitions, with no code to
-//! run. A run of a host is private: whatever others do in between, a tenant is told what a host of its
-//! own would tell it.
+//! What a tenant sees of a host, which replies it gets, and the laws of runs: definitions, with no code to run. A run
+//! of a host is private: whatever others do in between, a tenant gets the replies that a host of its own would give.
 #![tactic(auto)]
 
 mod disclosure;

@@ -12,10 +12,10 @@ ghost use Rattle.fork_model.specs.Runs.{Asks};
 ghost use Rattle.fork_model.specs.View.{View};
 ghost use Rattle.fork_model.specs.World.{World, Steps};
 
-/// What a request names and the tenant neither sees nor sends is reported as missing if nothing is
-/// wrong with the request before, whatever others hold: by the answer, and so in each step without a
-/// host fault. Nothing changes, except that a refused `part-end` discards the upload. `missing` is
-/// reported for nothing else.
+/// An object that a request names, and that the tenant neither sees nor sends, is reported as missing, whatever others
+/// hold, if nothing earlier is wrong with the request. The answer reports this, and so does each step without a host
+/// fault. Nothing changes, except that a refused `part-end` discards the upload. `missing` is reported for nothing
+/// else.
 pub fn what_is_lacking_is_missing()
     ensures answer { (context : Context) (view : View) (name : List ℕ) (ask : Ask) → IsMissing view name ask → answer context view ask ≡ (Refused (Missing name), left_by view ask) }
     ensures step { (old new : World) (tenant : List ℕ) (view : View) (name : List ℕ) (ask : Ask) (reply : Reply)
@@ -31,8 +31,8 @@ pub fn what_is_lacking_is_missing()
         → get old tenant ≡ Some view → Steps old (Asks tenant ask) (Refused (Missing name)) new → IsMissing view name ask }
 {}
 
-/// An object that a tenant does not hold is reported as missing, whatever others hold: by the answer,
-/// and so in each step without a host fault.
+/// An object that a tenant does not hold is reported as missing, whatever others hold. The answer reports this, and so
+/// does each step without a host fault.
 pub fn what_is_not_held_is_missing()
     ensures answer { (context : Context) (view : View) (name : List ℕ) → get view.objects name ≡ None → answer context view (AsksObject name) ≡ (Refused (Missing name), view) }
     ensures step { (old new : World) (tenant : List ℕ) (view : View) (name : List ℕ) (reply : Reply)

@@ -9,17 +9,16 @@ ghost use Rattle.fork_model.specs.Provenance.{IsFrom, IsUploadFrom, WasOffered, 
 ghost use Rattle.fork_model.specs.View.{View};
 ghost use Rattle.fork_model.specs.World.{World, Event, Explains, Meeting, alone, exchanges, exchanges_alone, met, told};
 
-/// What a tenant sees after an answer, it saw before, or it is in the body of this push, in the upload
-/// that ends here, or in the offer that is forked. An open upload was open before, or this part began
-/// or continued it.
+/// A tenant sees after an answer only what it saw before, or what is in the body of this push, in the upload that ends
+/// here, or in the offer that is forked. An open upload was open before, or this part began or continued it.
 pub fn what_is_seen_was_seen_or_sent()
     ensures object { (context : Context) (view : View) (ask : Ask) (name : List ℕ) (object : Object) → get (answer context view ask).1.objects name ≡ Some object → IsFrom context view (ask, (answer context view ask).0) name object }
     ensures upload { (context : Context) (view : View) (ask : Ask) → IsUploadFrom view (ask, (answer context view ask).0) (answer context view ask).1.upload }
 {}
 
-/// What a tenant sees at the end of a run, it saw at its start, or sent itself, in the body of a push
-/// or in all the parts of one upload from its beginning to its end; or it was in an offer that the
-/// tenant met and forked. Nothing else that others send is in it, whatever host faults occur.
+/// A tenant sees at the end of a run only what it saw at the start, what it sent itself, and what was in an offer that
+/// it met and forked. What it sent was in the body of a push, or in all the parts of one upload from its beginning to
+/// its end. Nothing else that others send is in its view, whatever host faults occur.
 pub fn what_runs_show_was_seen_or_sent()
     ensures alone { (view : View) (asked : List Meeting) (name : List ℕ) (object : Object)
         → get (alone view asked).1.objects name ≡ Some object
@@ -43,8 +42,8 @@ pub fn an_upload_is_all_its_parts()
 
 ghost use Rattle.fork_model.specs.Provenance.{WasShown};
 
-/// What was sent was seen at some moment: after the push that brought it, or after the end of the
-/// upload that did. What was in an offer that was forked was seen too: after the fork.
+/// What a tenant sent, it saw at some moment: after the push that brought it, or after the end of its upload. What was
+/// in an offer that it forked, it saw after the fork.
 pub fn what_was_sent_was_seen()
     ensures sent { (view : View) (asked : List Meeting) (name : List ℕ) (object : Object) → WasSent view (exchanges_alone view asked) name object → WasShown view asked name }
     ensures offered { (view : View) (asked : List Meeting) (name : List ℕ) (object : Object) → WasOffered asked (alone view asked).0 name object → WasShown view asked name }

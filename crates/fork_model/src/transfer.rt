@@ -22,8 +22,8 @@ ghost use Rattle.fork_model.specs.Transfer.{AreSendable, AreSendableOffers, HasP
 ghost use Rattle.fork_model.specs.View.{View};
 ghost use Rattle.fork_model.specs.World.{World, Event, Explains};
 
-/// After an empty line, what is fetched is a whole stream without commands, of the objects that the
-/// wanted names reach and the excluded ones do not, if no object is longer than a stream takes.
+/// If no object is longer than a stream takes, what is fetched is, after an empty line, a whole stream without
+/// commands. It has the objects that the wanted names reach and the excluded ones do not.
 pub fn what_is_fetched_is_a_stream()
     ensures { (view : View) (wanted excluded : List (List ℕ)) → IsRight view → AreSendable view.objects
         → finished (stream_of (10 ∷ fetched view.objects wanted excluded)) ≡ Ok ([], fetched_objects view.objects wanted excluded) }
@@ -37,8 +37,8 @@ pub fn what_is_fetched_is_enough()
         → get (received receiver sender.objects wanted excluded) name ≡ get sender.objects name }
 {}
 
-/// A push of what is fetched is accepted from a tenant that holds what the excluded names reach: only
-/// the limit may refuse it.
+/// A push of what is fetched is accepted from a tenant that holds what the excluded names reach: only the limit can
+/// refuse it.
 pub fn what_is_fetched_is_taken()
     ensures verdict { (receiver sender : View) (wanted excluded : List (List ℕ)) (old : References)
         → IsRight sender → HasPrerequisites receiver.objects sender.objects excluded → AreReferences receiver.objects old
@@ -49,8 +49,8 @@ pub fn what_is_fetched_is_taken()
         → pushed receiver word old (finished (stream_of (10 ∷ fetched sender.objects wanted excluded))) ≡ within_quota receiver word old (received receiver.objects sender.objects wanted excluded) }
 {}
 
-/// The data of a `fetch`, pushed after an empty line by another tenant that holds what was excluded, is
-/// answered as a push of the objects there, if its limit has room for them.
+/// If another tenant that holds what was excluded pushes the data of a `fetch` after an empty line, the answer is that
+/// to a push of its objects, which only the limit can refuse.
 pub fn what_is_fetched_can_be_pushed()
     ensures { (context other : Context) (receiver sender : View) (source word : List ℕ) (items : List (List ℕ)) (repository old : Repository) (selection : Selection) (text : List ℕ)
         → IsRight sender → AreSendable sender.objects → IsOrderly receiver
@@ -69,8 +69,8 @@ pub fn excluded_objects_are_enough()
         → HasPrerequisites receiver sender excluded }
 {}
 
-/// Answers keep a view's objects such that they can be sent, and runs those of each view: no object of
-/// a host that began without objects is longer than a stream takes.
+/// Answers keep a view's objects short enough to be sent, and runs keep those of each view so. So no object of a host
+/// that began without objects is longer than a stream takes.
 pub fn answers_keep_views_sendable()
     ensures view { (context : Context) (view : View) (ask : Ask) → AreSendableOffers context → IsSendable view → IsSendable (answer context view ask).1 }
     ensures world { (old new : World) (steps : List Event) (replies : List Reply) → Explains old steps replies new → IsSendableWorld old → IsSendableWorld new }

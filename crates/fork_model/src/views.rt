@@ -11,16 +11,16 @@ ghost use Rattle.fork_model.specs.Context.{Context};
 ghost use Rattle.fork_model.specs.Answer.{answer, left_by};
 ghost use Rattle.fork_model.specs.Sound.{IsAlikeWhereTaken, IsOrderly, IsOrderlyWorld, IsRight, IsSound, IsSoundBeside, IsSoundWorld, MayTake, takes_offer};
 
-/// A refused request leaves the view as it was, except that a refused `part-end` discards the upload;
-/// and no answer of the model is a host fault.
+/// A refused request leaves the view as it was, except that a refused `part-end` discards the upload. No answer of the
+/// model is a host fault.
 pub fn refusals_leave_the_view()
     ensures view { (context : Context) (view : View) (ask : Ask) (refusal : Refusal) → (answer context view ask).0 ≡ Refused refusal → (answer context view ask).1 ≡ left_by view ask }
     ensures reply { (context : Context) (view : View) (ask : Ask) → is_host_fault (answer context view ask).0 ≡ false }
 {}
 
-/// Answers keep a view in order and right, if what is offered may be taken. Runs do the same for a
-/// world, if it has one object of one name whenever an offer is taken. If none is taken, what names,
-/// kinds, lengths, references and limits determine does not depend on what bytes determine.
+/// Answers keep a view in order and right, if what is offered may be taken. Runs keep a world in order and right, if
+/// each name has only one object in it whenever an offer is taken. If none is taken, what names, kinds, lengths,
+/// references and limits determine does not depend on what bytes determine.
 pub fn runs_keep_worlds_sound()
     ensures orderly { (context : Context) (view : View) (ask : Ask) → MayTake context view.objects → IsOrderly view → IsOrderly (answer context view ask).1 }
     ensures right { (context : Context) (view : View) (ask : Ask) → IsSoundBeside context view.objects → IsSound view → IsRight (answer context view ask).1 }

@@ -128,7 +128,7 @@ pub fn serve_at_once<H: Net + Clock, S: LooseFiles>(
 }
 
 // Runs rounds until all connections were served. The state may be saved after a round.
-fn kept_rounds<H: Files<File = File> + AllocGlobal + Clock, S: LooseFiles>(
+fn kept_rounds<H: Files<File = File> + AllocGlobal + Clock + Eprint, S: LooseFiles>(
     rt: &H,
     host: &mut Host<S>,
     alloc: Global,
@@ -145,9 +145,11 @@ fn kept_rounds<H: Files<File = File> + AllocGlobal + Clock, S: LooseFiles>(
             return Ok(());
         }
         attended(rt, alloc, table)?;
+        keep.look();
         visit_all(host, alloc, &mut keep.journal, table, buffer)?;
         let ended = tidied(rt, table)?;
         keep.settle_after(alloc, host, ended)?;
+        keep.look();
     }
     Ok(())
 }
@@ -155,7 +157,10 @@ fn kept_rounds<H: Files<File = File> + AllocGlobal + Clock, S: LooseFiles>(
 /// Like `serve_at_once`, but keeps what the connections do: the state is saved between two rounds if the
 /// journal has grown too long, or if a connection ended. If anything could not be kept, nothing more is
 /// served.
-pub fn serve_kept_at_once<H: Files<File = File> + AllocGlobal + Net + Clock, S: LooseFiles>(
+pub fn serve_kept_at_once<
+    H: Files<File = File> + AllocGlobal + Net + Clock + Eprint,
+    S: LooseFiles,
+>(
     rt: &H,
     host: &mut Host<S>,
     alloc: Global,

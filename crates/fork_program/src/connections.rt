@@ -64,7 +64,7 @@ fn connection<H: Clock, S: LooseFiles>(
 }
 
 // Serves the frames of a peer. The state may be saved each time it pauses.
-fn visits<H: Files<File = File> + AllocGlobal + Clock, S: LooseFiles>(
+fn visits<H: Files<File = File> + AllocGlobal + Clock + Eprint, S: LooseFiles>(
     host: &mut Host<S>,
     alloc: Global,
     keep: &mut Keep<'_, H>,
@@ -76,6 +76,7 @@ fn visits<H: Files<File = File> + AllocGlobal + Clock, S: LooseFiles>(
     ensures cause { IfErr result IsLost }
 {
     for _ in 0..u64::MAX {
+        keep.look();
         let goes_on = visit(host, alloc, &mut keep.journal, peer, reader, writer)?;
         if !goes_on {
             return Ok(());
@@ -86,7 +87,7 @@ fn visits<H: Files<File = File> + AllocGlobal + Clock, S: LooseFiles>(
 }
 
 // The same for one connection, which is then ended.
-fn kept_connection<H: Files<File = File> + AllocGlobal + Clock, S: LooseFiles>(
+fn kept_connection<H: Files<File = File> + AllocGlobal + Clock + Eprint, S: LooseFiles>(
     rt: &H,
     host: &mut Host<S>,
     alloc: Global,
@@ -133,7 +134,7 @@ pub fn serve_connections<H: Clock, S: LooseFiles>(
 
 /// Serves this many connections, and keeps what they do: the state is saved after a connection, or during it,
 /// if the journal is long. If anything could not be kept, nothing more is served.
-pub fn serve_kept_connections<H: Files<File = File> + AllocGlobal + Clock, S: LooseFiles>(
+pub fn serve_kept_connections<H: Files<File = File> + AllocGlobal + Clock + Eprint, S: LooseFiles>(
     rt: &H,
     host: &mut Host<S>,
     alloc: Global,
@@ -152,6 +153,7 @@ pub fn serve_kept_connections<H: Files<File = File> + AllocGlobal + Clock, S: Lo
         };
         kept_connection(rt, host, alloc, keep, &stream)?;
         keep.settle(alloc, host)?;
+        keep.look();
     }
     Ok(())
 }

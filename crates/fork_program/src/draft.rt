@@ -2,13 +2,14 @@ ghost use Rattle.std.specs.Prelude.{◌≡◌, IfErr, IfOk};
 ghost use Rattle.fork_program.specs.Keeping.{IsSaved, IsTextOf};
 
 use crate::fault::Fault;
+use crate::roomy::Roomy;
 use crate::standing::name_of;
 use chained_log::LogWriter;
 use fork_host::Host;
 use fork_wire::write_uploads;
 use git_name::Name;
 use loose_store::{
-    LooseFiles, begin_journal, clear_journals, journal_name, settle_journal, write_state,
+    LooseFiles, Reserve, begin_journal, clear_journals, journal_name, settle_journal, write_state,
 };
 use std::alloc::Global;
 use std::fs::{File, Files};
@@ -18,7 +19,7 @@ use std::fs::{File, Files};
 pub(crate) struct Draft {
     pub(crate) state: Vec<u8>,
     name: Name,
-    journal: LogWriter<File>,
+    journal: LogWriter<Roomy<File>>,
     uploads: u64,
 }
 
@@ -30,16 +31,20 @@ fn unnamed<H: Files<File = File> + AllocGlobal>(
     dir: &str,
     standing: Name,
     name: Name,
-) -> Result<LogWriter<File>, Fault>
+    reserve: &Reserve,
+) -> Result<LogWriter<Roomy<File>>, Fault>
     ensures { IfErr result (λ fault. fault ≡ Fault.NotSaved) }
 {
     let Ok(()) = clear_journals(&rt, alloc, dir, standing) else {
         return Err(Fault::NotSaved);
     };
-    let Ok(file) = begin_journal(rt, alloc, dir, standing) else {
+    let Ok(shared) = reserve.share() else {
         return Err(Fault::NotSaved);
     };
-    match LogWriter::new(alloc, file, *name.as_bytes()) {
+    let Ok(file) = begin_journal(rt, alloc, dir, standing, reserve) else {
+        return Err(Fault::NotSaved);
+    };
+    match LogWriter::new(alloc, Roomy::new(file, shared), *name.as_bytes()) {
         Ok(journal) => Ok(journal),
         Err(_) => Err(Fault::NotSaved),
     }
@@ -52,6 +57,7 @@ pub(crate) fn closed<H: Files<File = File> + AllocGlobal, S: LooseFiles>(
     dir: &str,
     standing: Name,
     host: &Host<S>,
+    reserve: &Reserve,
 ) -> Result<Draft, Fault>
     ensures cause { IfErr result (λ fault. fault ≡ Fault.NotSaved) }
     ensures text { IfOk result (λ draft. IsTextOf host.now draft.state.items) }
@@ -60,7 +66,7 @@ pub(crate) fn closed<H: Files<File = File> + AllocGlobal, S: LooseFiles>(
         return Err(Fault::NotSaved);
     };
     let name = journal_name(state.as_slice());
-    let journal = unnamed(rt, alloc, dir, standing, name)?;
+    let journal = unnamed(rt, alloc, dir, standing, name, reserve)?;
     Ok(Draft {
         state,
         name,
@@ -76,6 +82,7 @@ pub(crate) fn drafted<H: Files<File = File> + AllocGlobal, S: LooseFiles>(
     dir: &str,
     standing: Name,
     host: &mut Host<S>,
+    reserve: &Reserve,
 ) -> Result<Draft, Fault>
     ensures cause { IfErr result (λ fault. fault ≡ Fault.NotSaved) }
     ensures saved { IsSaved host.old host.new }
@@ -84,7 +91,7 @@ pub(crate) fn drafted<H: Files<File = File> + AllocGlobal, S: LooseFiles>(
     let Ok(text) = fork_state::save(alloc, host) else {
         return Err(Fault::NotSaved);
     };
-    drafted_as(rt, alloc, dir, standing, host, text)
+    drafted_as(rt, alloc, dir, standing, host, text, reserve)
 }
 
 // Drafts a state of this text, with a journal that begins with the host's open uploads.
@@ -95,13 +102,14 @@ pub(crate) fn drafted_as<H: Files<File = File> + AllocGlobal, S: LooseFiles>(
     standing: Name,
     host: &mut Host<S>,
     text: Vec<u8>,
+    reserve: &Reserve,
 ) -> Result<Draft, Fault>
     ensures cause { IfErr result (λ fault. fault ≡ Fault.NotSaved) }
     ensures saved { IsSaved host.old host.new }
     ensures text { IfOk result (λ draft. draft.state.items ≡ text.items) }
 {
     let name = name_of(rt, alloc, dir, standing, text.as_slice());
-    let mut journal = unnamed(rt, alloc, dir, standing, name)?;
+    let mut journal = unnamed(rt, alloc, dir, standing, name, reserve)?;
     let Ok(uploads) = write_uploads(host, alloc, &mut journal) else {
         return Err(Fault::NotSaved);
     };
@@ -116,7 +124,7 @@ pub(crate) fn drafted_as<H: Files<File = File> + AllocGlobal, S: LooseFiles>(
 // A drafted state that is in place.
 #[derive(Drop)]
 pub(crate) struct Settled {
-    pub(crate) journal: LogWriter<File>,
+    pub(crate) journal: LogWriter<Roomy<File>>,
     pub(crate) name: Name,
     pub(crate) saved: u64,
 }
@@ -132,6 +140,7 @@ pub(crate) fn put<H: Files<File = File> + AllocGlobal, S: LooseFiles>(
     host: &mut Host<S>,
     standing: Option<Name>,
     draft: Draft,
+    reserve: &Reserve,
 ) -> Result<Settled, Fault>
     ensures cause { IfErr result (λ fault. fault ≡ Fault.NotSaved) }
     ensures host { host.new ≡ host.old }
@@ -145,11 +154,11 @@ pub(crate) fn put<H: Files<File = File> + AllocGlobal, S: LooseFiles>(
     let Ok(()) = host.sync(alloc) else {
         return Err(Fault::NotSaved);
     };
-    let Ok(()) = settle_journal(rt, alloc, dir, name, journal.writer()) else {
+    let Ok(()) = settle_journal(rt, alloc, dir, name, journal.writer().writer()) else {
         return Err(Fault::NotSaved);
     };
     if standing != Some(name) {
-        let Ok(()) = write_state(rt, alloc, dir, state.as_slice()) else {
+        let Ok(()) = write_state(rt, alloc, dir, state.as_slice(), reserve) else {
             return Err(Fault::NotSaved);
         };
     }

@@ -39,7 +39,7 @@ fn done<'a>(did: Result<(), Fault>) -> Ending<'a>
 // Carries out the command.
 fn carried_out<
     'a,
-    H: Files<File = File> + Net + AllocGlobal + RandomSource + Clock,
+    H: Files<File = File> + Net + AllocGlobal + RandomSource + Clock + Eprint,
     R: Read,
     W: Write,
 >(rt: &H, alloc: Global, command: Command<'_>, reader: &mut R, writer: &mut W) -> Ending<'a>
@@ -78,13 +78,12 @@ fn help<W: Write>(alloc: Global, error: Error, writer: &mut W) -> Result<(), Fau
 }
 
 // Does what the words ask for.
-fn ending<'a, H: Files<File = File> + Net + AllocGlobal + RandomSource + Clock, R: Read, W: Write>(
-    rt: &H,
-    alloc: Global,
-    words: &'a [&'a str],
-    reader: &mut R,
-    writer: &mut W,
-) -> Ending<'a>
+fn ending<
+    'a,
+    H: Files<File = File> + Net + AllocGlobal + RandomSource + Clock + Eprint,
+    R: Read,
+    W: Write,
+>(rt: &H, alloc: Global, words: &'a [&'a str], reader: &mut R, writer: &mut W) -> Ending<'a>
     ensures { Ends (map (λ word. word.now) words.entry.now) (R.remaining reader.old) (R.remaining reader.new)
         (W.contents writer.old) (W.contents writer.new) result }
 {
@@ -103,7 +102,7 @@ fn ending<'a, H: Files<File = File> + Net + AllocGlobal + RandomSource + Clock, 
 /// Does what the words ask for, writes to `faults` what belongs on standard error, and returns the exit
 /// status. The first word is the program's name.
 pub fn program<
-    H: Files<File = File> + Net + AllocGlobal + RandomSource + Clock,
+    H: Files<File = File> + Net + AllocGlobal + RandomSource + Clock + Eprint,
     R: Read,
     W: Write,
     F: Write,

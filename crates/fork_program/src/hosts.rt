@@ -7,7 +7,7 @@ use crate::tenants::add_tenants;
 use fork_command::Hosting;
 use fork_host::Host;
 use git_name::{Hashing, Name};
-use loose_store::{Folder, Memory};
+use loose_store::{Folder, Gate, Memory};
 use std::alloc::Global;
 use std::fs::{File, Files};
 use std::random::RandomSource;
@@ -21,8 +21,10 @@ pub(crate) fn host_in_memory<H: RandomSource>(
     ensures ok { IfOk result (IsHostOf hosting.entry) }
     ensures err { IfErr result (IsUnhosted hosting.entry) }
 {
-    let files = Memory::with_hashing(alloc, Hashing::drawn(rt));
-    let Ok(mut host) = Host::new(alloc, files) else {
+    let Ok(hashing) = Hashing::drawn(rt) else {
+        return Err(Fault::Memory);
+    };
+    let Ok(mut host) = Host::new(alloc, Memory::with_hashing(alloc, hashing)) else {
         return Err(Fault::Memory);
     };
     match add_tenants(&mut host, alloc, hosting.tenants) {
@@ -31,20 +33,21 @@ pub(crate) fn host_in_memory<H: RandomSource>(
     }
 }
 
-/// The host that a folder keeps, with the given tenants added, and the name of the state's journal.
+/// The host that a folder keeps, with the given tenants added, the name of the state's journal, and the
+/// folder's gate.
 pub(crate) fn host_in_folder<'a, H: Files<File = File> + AllocGlobal + RandomSource>(
     rt: &'a H,
     alloc: Global,
     dir: &str,
     hosting: Hosting<'_>,
-) -> Result<(Host<Folder<&'a H>>, Name), Fault>
+) -> Result<(Host<Folder<&'a H>>, Name, Gate), Fault>
     requires { is_some hosting.dir ≡ true }
     ensures ok { IfOk result (λ found. IsHostOf hosting.entry found.0) }
     ensures err { IfErr result (IsUnhosted hosting.entry) }
 {
-    let (mut host, standing) = kept_host(rt, alloc, dir)?;
+    let (mut host, standing, gate) = kept_host(rt, alloc, dir)?;
     match add_tenants(&mut host, alloc, hosting.tenants) {
-        Ok(()) => Ok((host, standing)),
+        Ok(()) => Ok((host, standing, gate)),
         Err(fault) => Err(fault),
     }
 }

@@ -3,13 +3,16 @@ ghost use Rattle.fork_program.specs.Keeping.{IsSaved};
 
 use crate::draft::{Draft, Settled, closed, drafted, put};
 use crate::fault::Fault;
+use crate::roomy::Roomy;
 use chained_log::LogWriter;
 use fork_host::Host;
 use fork_wire::Written;
 use git_name::Name;
-use loose_store::{FileFault, LooseFiles};
+use loose_store::{FileFault, LooseFiles, Reserve};
 use std::alloc::Global;
+use std::cell::Cell;
 use std::fs::{File, Files};
+use std::time::Instant;
 
 // A journal may always grow by this many bytes.
 const SPARE: u64 = 1_048_576;
@@ -20,15 +23,18 @@ const MOST_VISITED: u64 = 16_777_216;
 /// A folder that keeps a host: its state as it was last saved, and the journal of what was done since.
 #[derive(Drop)]
 pub struct Keep<'a, H> {
-    rt: &'a H,
-    dir: &'a str,
-    pub(crate) journal: Written<LogWriter<File>>,
+    pub(crate) rt: &'a H,
+    pub(crate) dir: &'a str,
+    pub(crate) journal: Written<LogWriter<Roomy<File>>>,
     // The journal's name, which is that of the state in the folder.
     name: Name,
     // How many bytes that state and the uploads at the start of the journal have.
     saved: u64,
     // Whether its journals are synced.
     syncs: bool,
+    pub(crate) reserve: Reserve,
+    // When a reserve that was given back may be made again.
+    pub(crate) due: Cell<Option<Instant>>,
 }
 
 // Syncs some object files before the next save does, if there are many.
@@ -52,7 +58,8 @@ fn is_uploading<S: LooseFiles>(alloc: Global, host: &Host<S>) -> bool {
 
 impl<'a, H: Files<File = File> + AllocGlobal> Keep<'a, H> {
     /// Saves the host's state in its folder, which has the state `standing`, and begins a journal after it.
-    /// After an `Err` the folder has its old state or the new one, and what belongs to that state.
+    /// After an `Err` the folder has its old state or the new one, and what belongs to that state. The reserve is
+    /// for this and all that is kept later.
     pub fn begin<S: LooseFiles>(
         rt: &'a H,
         alloc: Global,
@@ -60,13 +67,14 @@ impl<'a, H: Files<File = File> + AllocGlobal> Keep<'a, H> {
         standing: Name,
         host: &mut Host<S>,
         syncs: bool,
+        reserve: Reserve,
     ) -> Result<Keep<'a, H>, Fault>
         ensures cause { IfErr result (λ fault. fault ≡ Fault.NotSaved) }
         ensures syncs { IfOk result (λ keep. (keep.syncs ≡ syncs) × (keep.journal.syncs ≡ syncs)) }
         ensures saved { IsSaved host.old host.new }
     {
-        match drafted(rt, alloc, dir, standing, host) {
-            Ok(draft) => Keep::over(rt, alloc, dir, host, None, draft, syncs),
+        match drafted(rt, alloc, dir, standing, host, &reserve) {
+            Ok(draft) => Keep::over(rt, alloc, dir, host, None, draft, syncs, reserve),
             Err(fault) => Err(fault),
         }
     }
@@ -80,6 +88,7 @@ impl<'a, H: Files<File = File> + AllocGlobal> Keep<'a, H> {
         standing: Option<Name>,
         draft: Draft,
         syncs: bool,
+        reserve: Reserve,
     ) -> Result<Keep<'a, H>, Fault>
         ensures cause { IfErr result (λ fault. fault ≡ Fault.NotSaved) }
         ensures host { host.new ≡ host.old }
@@ -89,7 +98,7 @@ impl<'a, H: Files<File = File> + AllocGlobal> Keep<'a, H> {
             journal,
             name,
             saved,
-        } = put(rt, alloc, dir, host, standing, draft)?;
+        } = put(rt, alloc, dir, host, standing, draft, &reserve)?;
         let Ok(journal) = Written::new(alloc, journal, syncs) else {
             return Err(Fault::NotSaved);
         };
@@ -100,6 +109,8 @@ impl<'a, H: Files<File = File> + AllocGlobal> Keep<'a, H> {
             name,
             saved,
             syncs,
+            reserve,
+            due: Cell::new(None),
         })
     }
 
@@ -121,8 +132,16 @@ impl<'a, H: Files<File = File> + AllocGlobal> Keep<'a, H> {
             let _forgotten = host.forget_removed(alloc);
             return Ok(());
         }
-        let draft = closed(self.rt, alloc, self.dir, self.name, host)?;
-        match put(self.rt, alloc, self.dir, host, Some(self.name), draft) {
+        let draft = closed(self.rt, alloc, self.dir, self.name, host, &self.reserve)?;
+        match put(
+            self.rt,
+            alloc,
+            self.dir,
+            host,
+            Some(self.name),
+            draft,
+            &self.reserve,
+        ) {
             Ok(_settled) => Ok(()),
             Err(fault) => Err(fault),
         }
@@ -155,7 +174,10 @@ impl<'a, H: Files<File = File> + AllocGlobal> Keep<'a, H> {
             Err(FileFault::Memory) => return Ok(()),
             Err(FileFault::Device) => return Err(Fault::NotSaved),
         }
-        let Ok(draft) = drafted(self.rt, alloc, self.dir, self.name, host) else {
+        let Ok(draft) = drafted(self.rt, alloc, self.dir, self.name, host, &self.reserve) else {
+            return Ok(());
+        };
+        let Ok(reserve) = self.reserve.share() else {
             return Ok(());
         };
         match Keep::over(
@@ -166,6 +188,7 @@ impl<'a, H: Files<File = File> + AllocGlobal> Keep<'a, H> {
             Some(self.name),
             draft,
             self.syncs,
+            reserve,
         ) {
             Ok(keep) => {
                 *self = keep;

@@ -6,7 +6,7 @@ use crate::replaying::replay;
 use crate::telling::{of_journal, of_load, of_state, of_store};
 use fork_host::{Host, OpenError};
 use git_name::Name;
-use loose_store::{Folder, LooseFiles, has_other_journal, journal_name, read_state};
+use loose_store::{Folder, Gate, LooseFiles, has_other_journal, journal_name, read_state};
 use std::alloc::Global;
 use std::fs::{File, Files};
 use std::random::RandomSource;
@@ -80,37 +80,40 @@ fn restored_host<H: Files<File = File> + AllocGlobal, S: LooseFiles + Drop>(
     }
 }
 
-// The same, over the folder itself. The folder is created if it does not exist. While the host lives, no
-// other process can open it.
+// The same, over the folder itself, and the folder's gate. The folder is created if it does not exist. While the
+// host lives, no other process can open it.
 fn opened_host<'a, H: Files<File = File> + AllocGlobal + RandomSource>(
     rt: &'a H,
     alloc: Global,
     dir: &str,
-) -> Result<(Host<Folder<&'a H>>, Name, u64), Fault>
+) -> Result<(Host<Folder<&'a H>>, Name, u64, Gate), Fault>
     ensures { IfErr result IsUnkept }
 {
     let files = match Folder::open(rt, alloc, dir) {
         Ok(files) => files,
         Err(fault) => return Err(of_store(fault)),
     };
+    let Ok(gate) = files.gate() else {
+        return Err(Fault::Memory);
+    };
     match restored_host(rt, alloc, dir, files) {
-        Ok(restored) => Ok(restored),
+        Ok((host, name, count)) => Ok((host, name, count, gate)),
         Err(fault) => Err(fault),
     }
 }
 
-/// The host that a folder keeps, and the name of the state's journal. If the folder keeps no host, it is one
-/// without tenants. The folder is created if it does not exist. While the host lives, no other process can
+/// The host that a folder keeps, the name of the state's journal, and the folder's gate. If the folder keeps no
+/// host, it is one without tenants. The folder is created if it does not exist. While the host lives, no other process can
 /// open it.
 pub fn kept_host<'a, H: Files<File = File> + AllocGlobal + RandomSource>(
     rt: &'a H,
     alloc: Global,
     dir: &str,
-) -> Result<(Host<Folder<&'a H>>, Name), Fault>
+) -> Result<(Host<Folder<&'a H>>, Name, Gate), Fault>
     ensures { IfErr result IsUnkept }
 {
     match opened_host(rt, alloc, dir) {
-        Ok((host, name, _)) => Ok((host, name)),
+        Ok((host, name, _, gate)) => Ok((host, name, gate)),
         Err(fault) => Err(fault),
     }
 }
@@ -131,7 +134,7 @@ pub fn standing_host<'a, H: Files<File = File> + AllocGlobal + RandomSource>(
         Err(fault) => return Err(of_state(fault)),
     }
     match opened_host(rt, alloc, dir) {
-        Ok((host, _, count)) => Ok((host, count)),
+        Ok((host, _, count, _)) => Ok((host, count)),
         Err(fault) => Err(fault),
     }
 }

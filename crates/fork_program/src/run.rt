@@ -13,7 +13,7 @@ use fork_frame::Ended;
 use fork_host::Host;
 use fork_wire::{Journal, NoJournal, serve_kept};
 use git_name::Name;
-use loose_store::LooseFiles;
+use loose_store::{LooseFiles, Reserve};
 use std::alloc::Global;
 use std::fs::{File, Files};
 use std::io::{Read, Write};
@@ -57,7 +57,7 @@ fn keep_session<'x, H: Files<File = File> + AllocGlobal, S: LooseFiles, R: Read,
     ensures err { (hosting : Hosting) → IsKeptHostOf hosting host.old → IfErr result (IsUnserved hosting (R.remaining reader.old)
         (R.remaining reader.new) (W.contents writer.old) (W.contents writer.new)) }
 {
-    let mut keep = Keep::begin(rt, alloc, dir, standing, host, syncs)?;
+    let mut keep = Keep::begin(rt, alloc, dir, standing, host, syncs, Reserve::none())?;
     let served = session(host, alloc, &mut keep.journal, reader, writer);
     let saved = keep.end(alloc, host, &served);
     match served {
@@ -99,7 +99,7 @@ fn run_in_folder<'x, H: Files<File = File> + AllocGlobal + RandomSource, R: Read
         (W.contents writer.old) (W.contents writer.new)) }
 {
     let syncs = hosting.syncs;
-    let (mut host, standing) = host_in_folder(rt, alloc, dir, hosting)?;
+    let (mut host, standing, _gate) = host_in_folder(rt, alloc, dir, hosting)?;
     keep_session(rt, alloc, dir, standing, &mut host, reader, writer, syncs)
 }
 

@@ -5,7 +5,7 @@ use crate::draft::{drafted, drafted_as, put};
 use crate::fault::Fault;
 use crate::standing::standing_name;
 use fork_host::Host;
-use loose_store::LooseFiles;
+use loose_store::{LooseFiles, Reserve};
 use std::alloc::Global;
 use std::fs::{File, Files};
 
@@ -20,9 +20,10 @@ pub fn save<H: Files<File = File> + AllocGlobal, S: LooseFiles>(
     ensures cause { IfErr result (λ fault. fault ≡ Fault.NotSaved) }
     ensures text { OnOk result ((text : List ℕ) × IsTextOf host.old text) }
 {
+    let reserve = Reserve::none();
     let standing = standing_name(rt, alloc, dir)?;
-    let draft = drafted(rt, alloc, dir, standing, host)?;
-    match put(rt, alloc, dir, host, None, draft) {
+    let draft = drafted(rt, alloc, dir, standing, host, &reserve)?;
+    match put(rt, alloc, dir, host, None, draft, &reserve) {
         Ok(_settled) => Ok(()),
         Err(fault) => Err(fault),
     }
@@ -39,9 +40,10 @@ pub fn save_as<H: Files<File = File> + AllocGlobal, S: LooseFiles>(
 ) -> Result<(), Fault>
     ensures cause { IfErr result (λ fault. fault ≡ Fault.NotSaved) }
 {
+    let reserve = Reserve::none();
     let standing = standing_name(rt, alloc, dir)?;
-    let draft = drafted_as(rt, alloc, dir, standing, host, text)?;
-    match put(rt, alloc, dir, host, None, draft) {
+    let draft = drafted_as(rt, alloc, dir, standing, host, text, &reserve)?;
+    match put(rt, alloc, dir, host, None, draft, &reserve) {
         Ok(_settled) => Ok(()),
         Err(fault) => Err(fault),
     }

@@ -9,10 +9,11 @@ use crate::fault::Fault;
 use crate::hosts::{host_in_folder, host_in_memory};
 use crate::keep::Keep;
 use crate::listening::{Listening, listen, show};
+use crate::reserving::reserved;
 use fork_command::Hosting;
 use fork_host::Host;
 use git_name::Name;
-use loose_store::LooseFiles;
+use loose_store::{Gate, LooseFiles};
 use std::alloc::Global;
 use std::fs;
 use std::fs::{File, Files};
@@ -41,7 +42,7 @@ fn serve_all<H: Net + Clock, S: LooseFiles>(
 }
 
 // The same, and keeps what they do.
-fn serve_all_kept<H: Files<File = File> + AllocGlobal + Net + Clock, S: LooseFiles>(
+fn serve_all_kept<H: Files<File = File> + AllocGlobal + Net + Clock + Eprint, S: LooseFiles>(
     rt: &H,
     alloc: Global,
     host: &mut Host<S>,
@@ -81,7 +82,7 @@ fn serve_at<H: Files + Net + Clock, S: LooseFiles>(
 }
 
 // Serves this many connections, keeps what they do, and then removes the socket.
-fn serve_kept_at<H: Files<File = File> + Net + AllocGlobal + Clock, S: LooseFiles>(
+fn serve_kept_at<H: Files<File = File> + Net + AllocGlobal + Clock + Eprint, S: LooseFiles>(
     rt: &H,
     alloc: Global,
     host: &mut Host<S>,
@@ -120,7 +121,7 @@ fn serve_host<H: Files<File = File> + Net + Clock, S: LooseFiles>(
 // Serves connections to a host that a folder keeps, at a socket that was bound. The socket is moved to its
 // path after the state is saved. The state is saved once more after the last connection. Each request is kept
 // before its reply is sent.
-fn keep_connections<'x, H: Files<File = File> + Net + AllocGlobal + Clock, S: LooseFiles>(
+fn keep_connections<'x, H: Files<File = File> + Net + AllocGlobal + Clock + Eprint, S: LooseFiles>(
     rt: &'x H,
     alloc: Global,
     dir: &'x str,
@@ -131,11 +132,14 @@ fn keep_connections<'x, H: Files<File = File> + Net + AllocGlobal + Clock, S: Lo
     connections: u32,
     at_once: Option<u32>,
     syncs: bool,
+    gate: Gate,
 ) -> Result<(), Fault>
     ensures ok { (hosting : Hosting) → IsKeptHostOf hosting host.old → OnOk result (IsListened hosting at_once connections) }
     ensures err { (hosting : Hosting) → IsKeptHostOf hosting host.old → IfErr result (IsUnlistened hosting at_once connections) }
 {
-    let mut keep = Keep::begin(rt, alloc, dir, standing, host, syncs)?;
+    let reserve = reserved(rt, alloc, dir, gate);
+    let mut keep = Keep::begin(rt, alloc, dir, standing, host, syncs, reserve)?;
+    keep.look();
     show(rt, alloc, socket)?;
     let served = serve_kept_at(
         rt,
@@ -147,7 +151,9 @@ fn keep_connections<'x, H: Files<File = File> + Net + AllocGlobal + Clock, S: Lo
         connections,
         at_once,
     );
+    keep.look();
     let saved = keep.end(alloc, host, &served);
+    keep.look();
     match served {
         Ok(()) => saved,
         Err(fault) => Err(fault),
@@ -155,7 +161,7 @@ fn keep_connections<'x, H: Files<File = File> + Net + AllocGlobal + Clock, S: Lo
 }
 
 // Listens at a socket, and serves connections to a host that a folder keeps.
-fn serve_kept_host<'x, H: Files<File = File> + Net + AllocGlobal + Clock, S: LooseFiles>(
+fn serve_kept_host<'x, H: Files<File = File> + Net + AllocGlobal + Clock + Eprint, S: LooseFiles>(
     rt: &'x H,
     alloc: Global,
     dir: &'x str,
@@ -165,6 +171,7 @@ fn serve_kept_host<'x, H: Files<File = File> + Net + AllocGlobal + Clock, S: Loo
     connections: u32,
     at_once: Option<u32>,
     syncs: bool,
+    gate: Gate,
 ) -> Result<(), Fault>
     ensures ok { (hosting : Hosting) → IsKeptHostOf hosting host.old → OnOk result (IsListened hosting at_once connections) }
     ensures err { (hosting : Hosting) → IsKeptHostOf hosting host.old → IfErr result (IsUnlistened hosting at_once connections) }
@@ -181,6 +188,7 @@ fn serve_kept_host<'x, H: Files<File = File> + Net + AllocGlobal + Clock, S: Loo
         connections,
         at_once,
         syncs,
+        gate,
     )
 }
 
@@ -201,7 +209,7 @@ fn serve_in_memory<H: Files<File = File> + Net + RandomSource + Clock>(
 }
 
 // Serves connections to the host that a folder keeps.
-fn serve_in_folder<'x, H: Files<File = File> + Net + AllocGlobal + RandomSource + Clock>(
+fn serve_in_folder<'x, H: Files<File = File> + Net + AllocGlobal + RandomSource + Clock + Eprint>(
     rt: &'x H,
     alloc: Global,
     dir: &'x str,
@@ -215,7 +223,7 @@ fn serve_in_folder<'x, H: Files<File = File> + Net + AllocGlobal + RandomSource 
     ensures err { IfErr result (IsUnlistened hosting.entry at_once connections) }
 {
     let syncs = hosting.syncs;
-    let (mut host, standing) = host_in_folder(rt, alloc, dir, hosting)?;
+    let (mut host, standing, gate) = host_in_folder(rt, alloc, dir, hosting)?;
     serve_kept_host(
         rt,
         alloc,
@@ -226,6 +234,7 @@ fn serve_in_folder<'x, H: Files<File = File> + Net + AllocGlobal + RandomSource 
         connections,
         at_once,
         syncs,
+        gate,
     )
 }
 
@@ -233,7 +242,7 @@ fn serve_in_folder<'x, H: Files<File = File> + Net + AllocGlobal + RandomSource 
 /// `at_once` of them at once, or one after another.
 /// If a folder keeps the host, what was served is saved. Open uploads are not saved: they end with the last
 /// connection. If the folder could not be written, it keeps all that was answered, including open uploads.
-pub fn serve<H: Files<File = File> + Net + AllocGlobal + RandomSource + Clock>(
+pub fn serve<H: Files<File = File> + Net + AllocGlobal + RandomSource + Clock + Eprint>(
     rt: &H,
     alloc: Global,
     socket: &str,

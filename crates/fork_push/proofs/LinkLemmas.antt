@@ -50,20 +50,20 @@ or_none (Some link) = refl
 pub blob_noted : (test : Link → Bool) (both : Objects) (name : List ℕ) (old : Option Link) → kind_in both name ≡ Some Blob → old ≡ option_or old (find test (links_of_found (get both name)))
 blob_noted test both name old blob = or_none old ∙ ap (option_or old) (blob_found test both name blob)
 
--- what is found in the links from an object on is found in its own, or else in those behind it
+-- what is found in the links from an object on is found in its own, or else in those after it
 found_from : (test : Link → Bool) (both : Objects) (names : List (List ℕ)) (i : ℕ) (name : List ℕ) → i < length names → name ≡ get_or names i name
     → find test (links_under both (drop i names)) ≡ option_or (find test (links_of_found (get both name))) (find test (links_under both (drop (i + 1) names)))
 found_from test both names i name inside is =
     ap (λ left. find test (links_under both left)) (drop_more names i name inside ∙ ap (λ y. y ∷ drop (i + 1) names) (sym is))
     ∙ find-append test (links_of_found (get both name)) (links_under both (drop (i + 1) names))
 
--- an object where nothing is found is passed over
+-- an object in which nothing is found can be skipped
 pub none_found : (test : Link → Bool) (both : Objects) (names : List (List ℕ)) (i : ℕ) (name : List ℕ) (whole : Option Link) → i < length names → name ≡ get_or names i name
     → find test (links_under both (drop i names)) ≡ whole → None ≡ find test (links_of_found (get both name)) → find test (links_under both (drop (i + 1) names)) ≡ whole
 none_found test both names i name whole inside is so_far none =
     ap (λ found. option_or found (find test (links_under both (drop (i + 1) names)))) none ∙ sym (found_from test both names i name inside is) ∙ so_far
 
--- what is found in an object is noted, where nothing was before
+-- what is found in an object is noted, if nothing was noted before
 pub found_noted : (test : Link → Bool) (both : Objects) (names : List (List ℕ)) (i : ℕ) (name : List ℕ) (old new whole : Option Link) → i < length names → name ≡ get_or names i name
     → option_or old (find test (links_under both (drop i names))) ≡ whole → new ≡ option_or old (find test (links_of_found (get both name))) → option_or new (find test (links_under both (drop (i + 1) names))) ≡ whole
 found_noted test both names i name old new whole inside is so_far noted =
@@ -71,14 +71,14 @@ found_noted test both names i name old new whole inside is so_far noted =
     ∙ option_or_assoc old (find test (links_of_found (get both name))) (find test (links_under both (drop (i + 1) names)))
     ∙ ap (option_or old) (sym (found_from test both names i name inside is)) ∙ so_far
 
--- a missing link, where none was before
+-- a missing link, if none before it was missing
 pub missing_at : (both : Objects) (names : List (List ℕ)) (i : ℕ) (name : List ℕ) (link : Link) → i < length names → name ≡ get_or names i name
     → find (is_missing both) (links_under both (drop i names)) ≡ find (is_missing both) (links_under both names) → Some link ≡ find (is_missing both) (links_of_found (get both name)) → Some (Missing link.name) ≡ link_refusal both (links_under both names)
 missing_at both names i name link inside is so_far found =
     ap (λ first. option_or (option_map (λ l. Missing l.name) first) (wrong_type both (links_under both names)))
     (ap (λ first. option_or first (find (is_missing both) (links_under both (drop (i + 1) names)))) found ∙ sym (found_from (is_missing both) both names i name inside is) ∙ so_far)
 
--- where nothing is found in the links of right entries, nothing is in those of a tree
+-- if nothing is found in the links of valid entries, nothing is found in those of a tree
 pub tree_passed : (test : Link → Bool) (bytes : List ℕ) → (IsRow bytes → find test (flat_map entry_links (entries_in bytes)) ≡ None) → find test (links_in Tree bytes) ≡ None
 unfolding links_in object_in
 tree_passed test bytes none = by (tree_in bytes) refl
@@ -90,7 +90,7 @@ tree_passed test bytes none = by (tree_in bytes) refl
         let row = row_is_of bytes entries tree.are.each tree.spelling in
         ap (λ each. find test (flat_map entry_links each)) (sym row.0) ∙ none row.1
 
--- the same of the names in the first lines, and of a commit
+-- if nothing is found in the names of the first lines, nothing is found in the links of a commit
 pub commit_passed : (test : Link → Bool) (bytes : List ℕ) → ((value : CommitValue) → IsCommit value bytes → find test (link_to value.tree Tree ∷ map commit_link value.parents) ≡ None) → find test (links_in Commit bytes) ≡ None
 unfolding links_in object_in
 commit_passed test bytes none = by (commit_in bytes) refl
@@ -99,17 +99,17 @@ commit_passed test bytes none = by (commit_in bytes) refl
     by None is = refl
     by (Some value) is = none value (is_commit_in bytes value is)
 
--- a link that passes no test is passed over
+-- a link that fails the test can be skipped
 pub link_passed : (test : Link → Bool) (link : Link) (links : List Link) → test link ≡ false → find test (link ∷ links) ≡ find test links
 link_passed test link links none = ap (λ b. cond b (Some link) (find test links)) none
 
--- an entry where nothing is found is passed over
+-- an entry in which nothing is found can be skipped
 pub entry_passed : (test : Link → Bool) (entry : Entry) (entries : List Entry) → find test (entry_links entry) ≡ None
     → find test (flat_map entry_links (entry ∷ entries)) ≡ find test (flat_map entry_links entries)
 entry_passed test entry entries none =
     find-append test (entry_links entry) (flat_map entry_links entries) ∙ ap (λ found. option_or found (find test (flat_map entry_links entries))) none
 
--- where no link is wrong, none is missing
+-- if no link is wrong, none is missing
 left_none : (o : Option Link) (link : Link) (b : Bool) → cond b (Some link) o ≡ None → o ≡ None
 left_none o link true none = (let differs : ⊥ = cc in absurd differs)
 left_none o link false none = none
@@ -123,6 +123,6 @@ none_missing both [] none = refl
 none_missing both (link ∷ links) none =
     missing_wrong link (kind_in both link.name) (find (is_wrong both) links) (find (is_missing both) links) none (none_missing both links (left_none (find (is_wrong both) links) link (is_wrong both link) none))
 
--- and what was noted before stays
+-- if nothing is found, what was noted before stays
 pub noted_still : (old found : Option Link) → found ≡ None → old ≡ option_or old found
 noted_still old found none = or_none old ∙ ap (option_or old) (sym none)

@@ -1,4 +1,4 @@
--- What is accepted passed its transaction and the limit, over objects of the same measures.
+-- An accepted push passed its transaction and the limit, also over other objects of the same measures.
 use Rattle.std.proofs.Common.{◌≡◌, ℕ, ◌≤◌, Bool, true, false, cond, List, refl, sym, ap, subst, ◌∙◌, arith}
 use Rattle.std.specs.Prelude.{nat_lt, Result, Ok, Err}
 use Rattle.std.proofs.lemmas.Bool.Decides.{nat_tests}

@@ -17,8 +17,8 @@ use push_stream::{Brief, StreamFault};
 use std::alloc::Global;
 
 #[tactic(auto, unfolding(crate::specs::Push::judged))]
-/// Judges a push into a repository of these references, under a limit on what all objects may use. It
-/// changes nothing. Of the sent objects it reads only those that are not blobs.
+/// Judges a push into a repository with these references, under a limit on what all objects may use. It changes
+/// nothing, and reads no blob that was sent.
 pub fn judge<S: Sides>(
     alloc: Global,
     sides: &mut S,
@@ -39,7 +39,7 @@ pub fn judge<S: Sides>(
 }
 
 #[tactic(auto, unfolding(crate::specs::Push::judged))]
-// The same, if the stream is valid.
+// Judges a push whose stream is valid.
 fn judge_brief<S: Sides>(
     alloc: Global,
     sides: &mut S,
@@ -58,7 +58,7 @@ fn judge_brief<S: Sides>(
     }
 }
 
-// The same, if nothing is wrong with the links.
+// Judges a push whose stream and links are valid.
 fn judge_transaction<S: Sides>(
     alloc: Global,
     sides: &S,

@@ -34,8 +34,8 @@ fn is_entry_met<S: Source>(source: &S, entry: TreeEntry<'_>) -> bool
     }
 }
 
-// The same for all entries, if the bytes are a tree. It does not check that they are one, so it needs
-// one look at each entry.
+// Whether that holds for all entries, if the bytes are a tree. It does not check that they are one, so it looks at each
+// entry once.
 fn are_entries_met<S: Source>(source: &S, bytes: &[u8]) -> bool
     ensures { OnTrue result (find (is_wrong (S.state source.now).objects) (links_in Kind.Tree bytes.now) ≡ None) }
 {
@@ -49,8 +49,8 @@ fn are_entries_met<S: Source>(source: &S, bytes: &[u8]) -> bool
     true
 }
 
-// The same for the tree and all parents, if the bytes are a commit. It does not check that they are
-// one.
+// Whether the tree and all parents exist and have their kinds, if the bytes are a commit. It does not check that they
+// are one.
 fn are_names_met<S: Source>(source: &S, bytes: &[u8]) -> bool
     ensures { OnTrue result (find (is_wrong (S.state source.now).objects) (links_in Kind.Commit bytes.now) ≡ None) }
 {
@@ -69,8 +69,8 @@ fn are_names_met<S: Source>(source: &S, bytes: &[u8]) -> bool
     true
 }
 
-// Whether the links of an object of this kind and these bytes are all right, as far as that shows
-// without its grammar.
+// Whether the links of an object of this kind and these bytes are right, as far as that can be seen without its
+// grammar.
 fn are_met<S: Source>(source: &S, kind: Kind, bytes: &[u8]) -> bool
     ensures { OnTrue result (find (is_wrong (S.state source.now).objects) (links_in kind bytes.now) ≡ None) }
 {
@@ -81,8 +81,8 @@ fn are_met<S: Source>(source: &S, kind: Kind, bytes: &[u8]) -> bool
     }
 }
 
-// The first link of an object of this kind and these bytes whose object does not exist. If there is
-// none, the first link to another kind is noted, unless one was noted before.
+// The first link of an object of this kind and these bytes whose object does not exist. If there is none, notes the
+// first link to another kind, unless one was noted before.
 pub(crate) fn judge_links<S: Source>(
     source: &S,
     kind: Kind,

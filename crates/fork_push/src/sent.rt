@@ -48,9 +48,8 @@ fn is_blob<S: Source>(source: &S, name: Name) -> bool
     }
 }
 
-// The first link of the object of this name whose object does not exist. If there is none, the first
-// link to another kind is noted, unless one was noted before. The source comes to know the links of what is
-// lent.
+// The first link of the object of this name whose object does not exist. If there is none, notes the first link to
+// another kind, unless one was noted before. The source learns the links of an object that it lends.
 fn judge_object<S: Source>(
     alloc: Global,
     source: &mut S,

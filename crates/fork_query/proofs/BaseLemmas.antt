@@ -20,7 +20,7 @@ use Rattle.fork_reach.proofs.HiddenLemmas.{get_kept}
 use Rattle.fork_reach.proofs.NameLemmas.{Contains-keys, among-Contains, among-from_Contains, any_passes, same_tests}
 use Rattle.fork_reach.proofs.ReachLemmas.{led_to_reached, next_reached, reached_led_to, reached_there, root_reached}
 use Rattle.fork_reach.proofs.SeeingLemmas.{sole, sole_there}
-use Rattle.fork_reach.specs.Descent.{is_ancestor, is_best_of, is_common_of, is_parent_of}
+use Rattle.fork_reach.specs.Bases.{is_ancestor, is_best_of, is_common_of, is_parent_of}
 use Rattle.fork_query.specs.MergeBase.{is_base, is_common, is_outdone}
 use Rattle.fork_reach.specs.NotedBases.{is_ancestor_noted, is_best_noted, is_common_noted, is_other_parent}
 use Rattle.fork_query.proofs.BeyondLemmas.{there_passes}

@@ -8,7 +8,7 @@ use Rattle.git_name.specs.Name.{name_cmp}
 use Rattle.git_reftx.specs.Repository.{Repository}
 use Rattle.fork_reach.specs.Reach.{is_among}
 use Rattle.fork_reach.specs.Source.{Objects}
-use Rattle.fork_reach.specs.Descent.{is_ancestor}
+use Rattle.fork_reach.specs.Bases.{is_ancestor}
 use Rattle.fork_request.specs.declared.refusal.Refusal.{Refusal}
 use Rattle.fork_query.specs.Items.{commit_of_item}
 use Rattle.fork_query.specs.Objects.{name_lines}

@@ -13,7 +13,7 @@ use crate::items::named_item;
 use crate::name_lines::write_names;
 use crate::query_error::QueryError;
 use crate::want::Want;
-use fork_reach::{Ancestry, Source, SourceFault, ascending, known_bases, read_history};
+use fork_reach::{Source, SourceFault, ascending, read_history};
 use git_name::{Hashing, Name};
 use git_reftx::Repository;
 use indexmap::IndexSet;
@@ -39,8 +39,8 @@ fn read_bases<S: Source>(
     }
 }
 
-// The same, from the parents that the source knows, which it learns if it can.
-fn best<S: Ancestry>(
+// The same, from the parents that the source knows. If it does not know all, both histories are read.
+fn best<S: Source>(
     alloc: Global,
     source: &mut S,
     a: Name,
@@ -51,9 +51,7 @@ fn best<S: Ancestry>(
     ensures seen { IfOk result (λ best. (name : List ℕ) → contains same_name best name ≡ true → contains_key (S.state source.old).objects name ≡ true) }
     ensures asked { IsAsked (S.state source.old) (S.state source.new) (fault_in result) }
 {
-    source.learn(alloc, a)?;
-    source.learn(alloc, b)?;
-    match known_bases(alloc, source, a, b) {
+    match source.known_bases(alloc, a, b) {
         Ok(Some(best)) => Ok(best),
         Ok(None) => read_bases(alloc, source, a, b),
         Err(_) => Err(SourceFault::Memory),
@@ -62,12 +60,7 @@ fn best<S: Ancestry>(
 
 #[tactic(auto, unfolding(crate::specs::MergeBase::merge_bases))]
 // The best common ancestors, one a line.
-fn bases<S: Ancestry>(
-    alloc: Global,
-    source: &mut S,
-    a: Name,
-    b: Name,
-) -> Result<Vec<u8>, SourceFault>
+fn bases<S: Source>(alloc: Global, source: &mut S, a: Name, b: Name) -> Result<Vec<u8>, SourceFault>
     ensures listed { IsTrue (S.state source.old).honest → IfOk result (λ text. text.items ≡ name_lines (merge_bases (S.state source.old).objects a b)) }
     // Over any source.
     ensures seen { IfOk result (λ text. ListsSeen (S.state source.old).objects text.items) }
@@ -85,9 +78,9 @@ fn bases<S: Ancestry>(
 
 #[tactic(auto, unfolding(crate::specs::MergeBase::bases_told))]
 /// The best common ancestors of two commits, one a line, ascending by name: those that are no ancestor
-/// of another common ancestor. Each commit is read once, and none whose parents the source knows. A `^`
-/// is part of an item.
-pub fn merge_base<S: Ancestry>(
+/// of another common ancestor. If the source knows the parents of all their ancestors, it reads none of them.
+/// Otherwise it reads each once. A `^` is part of an item.
+pub fn merge_base<S: Source>(
     alloc: Global,
     source: &mut S,
     repository: &Repository,

@@ -1,9 +1,6 @@
 pub mod AlongLemmas
 pub mod AskedLemmas
-pub mod BestLemmas
-pub mod DescentLemmas
 pub mod Examples
-pub mod GraphLemmas
 pub mod HiddenLemmas
 pub mod HistoryLemmas
 pub mod KeptObjects

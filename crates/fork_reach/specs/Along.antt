@@ -5,7 +5,7 @@ use Rattle.std.specs.Option.{option_map_or}
 use Rattle.git_name.specs.declared.kind.Kind.{Kind}
 use Rattle.git_name.specs.declared.kind.Kind.TheVariants.{Blob, Tree, Commit, Tag}
 use Rattle.git_object.specs.ObjectIn.{links_in}
-use Rattle.commit_graph.specs.Parents.{parents_in}
+use Rattle.fork_reach.specs.ParentNames.{parents_in}
 use Rattle.fork_reach.specs.declared.along.Along.{Along}
 use Rattle.fork_reach.specs.declared.along.Along.TheVariants.{Links, Parents}
 use Rattle.fork_reach.specs.Objects.{Measures}

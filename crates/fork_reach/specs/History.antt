@@ -8,7 +8,7 @@ use Rattle.git_name.specs.declared.kind.Kind.TheVariants.{Blob, Tree, Commit, Ta
 use Rattle.git_name.specs.Object.{Object}
 use Rattle.git_commit.specs.Commit.{CommitValue}
 use Rattle.git_commit.specs.CommitIn.{commit_in}
-use Rattle.commit_graph.specs.Parents.{parents_in}
+use Rattle.fork_reach.specs.ParentNames.{parents_in}
 use Rattle.fork_reach.specs.Source.{Objects}
 
 -- the committer's seconds since 1970; none are 0

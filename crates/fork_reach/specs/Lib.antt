@@ -1,12 +1,12 @@
 pub mod Along
-pub mod Descent
+pub mod Bases
 pub mod Faults
 pub mod Hidden
 pub mod History
-pub mod Known
 pub mod Marks
 pub mod NotedBases
 pub mod Objects
+pub mod ParentNames
 pub mod Parents
 pub mod Queuing
 pub mod Reach

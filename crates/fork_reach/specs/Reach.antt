@@ -5,7 +5,7 @@ use Rattle.std.specs.FinMap.{FinMap, get, contains_key, keys, len}
 use Rattle.std.specs.Str.{bytes_eq}
 use Rattle.git_name.specs.Name.{name_cmp}
 use Rattle.git_name.specs.Object.{Object}
-use Rattle.commit_graph.specs.Parents.{parents_in}
+use Rattle.fork_reach.specs.ParentNames.{parents_in}
 use Rattle.git_object.specs.declared.link.Link.{Link}
 use Rattle.git_object.specs.ObjectIn.{links_in}
 use Rattle.fork_reach.specs.Source.{Objects}

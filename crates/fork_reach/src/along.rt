@@ -4,8 +4,8 @@ ghost use Rattle.git_object.specs.ObjectIn.{links_in};
 ghost use Rattle.fork_reach.specs.Along.{names_along, names_in, rests, rests_in};
 ghost use Rattle.fork_reach.specs.Faults.{IsAsked};
 
+use crate::parent_names::parent_names;
 use crate::source::{Source, SourceFault};
-use commit_graph::parent_names;
 use git_name::{Kind, Name};
 use git_object::{Object, links};
 use std::alloc::{AllocError, Global};
@@ -65,17 +65,8 @@ fn names_of(alloc: Global, along: Along, kind: Kind, bytes: &[u8]) -> Result<Vec
     }
 }
 
-// Has the source learn the links of a borrowed object, if the walk follows all links.
-fn learn_along<S: Source>(alloc: Global, source: &mut S, along: Along, name: Name)
-    ensures { IsAsked (S.state source.old) (S.state source.new) None }
-{
-    match along {
-        Along::Links => source.learn_links(alloc, name),
-        Along::Parents => {}
-    }
-}
-
-// The names that a walk goes on to from the object of this name. It is borrowed, or read once.
+// The names that a walk goes on to from the object of this name. It is borrowed, and the source learns its links, or it
+// is read once.
 pub(crate) fn next_names<S: Source>(
     alloc: Global,
     source: &mut S,
@@ -89,7 +80,7 @@ pub(crate) fn next_names<S: Source>(
         let Ok(names) = names_of(alloc, along, kind, bytes) else {
             return Err(SourceFault::Memory);
         };
-        learn_along(alloc, source, along, name);
+        source.learn_links(alloc, name);
         return Ok(names);
     }
     match source.read(alloc, name) {

@@ -4,14 +4,13 @@
 #![tactic(auto)]
 
 mod along;
-mod ancestry;
-mod descent;
 mod history;
 mod laws;
 mod names;
 mod noted;
 mod noting;
 mod order;
+mod parent_names;
 mod parents;
 mod places;
 mod queuing;
@@ -23,8 +22,6 @@ mod usage;
 mod walk;
 
 pub use crate::along::link_names;
-pub use crate::ancestry::Ancestry;
-pub use crate::descent::known_bases;
 pub use crate::history::History;
 pub use crate::laws::reached_is_led_to;
 pub use crate::noted::Noted;

@@ -2,7 +2,7 @@ ghost use Rattle.std.specs.Prelude.{◌≡◌, IfOk};
 ghost use Rattle.git_commit.specs.Whole.{commit_of};
 ghost use Rattle.fork_reach.specs.Parents.{parents_listed};
 
-use commit_graph::parents_of;
+use crate::parent_names::parents_of;
 use git_commit::Commit;
 use git_name::Name;
 use std::alloc::{AllocError, Global};

@@ -29,13 +29,18 @@ fn is_commit<S: Source>(source: &S, name: Name) -> bool
     }
 }
 
-// The note of the object of this name. It is borrowed, or read at most once, and not read if it is not a commit.
+// The note of the object of this name. It is borrowed, and the source learns its links, or it is read at most once. It is
+// not read if it is not a commit.
 fn noted<S: Source>(alloc: Global, source: &mut S, name: Name) -> Result<Noted, SourceFault>
     ensures noted { IsTrue (S.state source.old).honest → IfOk result (λ noted. noted ≡ note_at (S.state source.old).objects name) }
     ensures asked { IsAsked (S.state source.old) (S.state source.new) (fault_in result) }
 {
     if let Some((kind, bytes)) = source.lend(name) {
-        return Noted::of(alloc, kind, bytes).map_err(|_| SourceFault::Memory);
+        let Ok(noted) = Noted::of(alloc, kind, bytes) else {
+            return Err(SourceFault::Memory);
+        };
+        source.learn_links(alloc, name);
+        return Ok(noted);
     }
     if !is_commit(source, name) {
         return Ok(Noted::none());

@@ -5,6 +5,7 @@ ghost use Rattle.std.specs.List.{Contains};
 ghost use Rattle.git_name.specs.Object.{object_name};
 ghost use Rattle.git_name.specs.Same.{same_name};
 ghost use Rattle.git_name.specs.Count.{fault_in};
+ghost use Rattle.fork_reach.specs.Bases.{is_best_of};
 ghost use Rattle.fork_reach.specs.Faults.{IsAsked};
 ghost use Rattle.fork_reach.specs.History.{note_at};
 ghost use Rattle.fork_reach.specs.Reach.{is_between, linked_names, parent_names};
@@ -39,9 +40,7 @@ pub trait Source {
     ghost state: { Self → SourceState Base Rest };
 
     /// How to hash its names in a walk.
-    fn hashing(&self) -> Hashing {
-        Hashing::default()
-    }
+    fn hashing(&self) -> Hashing;
 
     /// The kind of the object of this name. It does not read its bytes.
     fn kind_of(&self, name: Name) -> Option<Kind>
@@ -99,6 +98,26 @@ pub trait Source {
         let _excluded = excluded;
         let nothing = None;
         Ok(nothing)
+    }
+
+    /// The names of the common ancestors of two commits that are not a parent of another one; `None` if it does not know
+    /// the parents of all their ancestors. It reads nothing, and what the source shows stays.
+    fn known_bases(
+        &mut self,
+        alloc: Global,
+        a: Name,
+        b: Name,
+    ) -> Result<Option<IndexSet<Name, Hashing>>, AllocError>
+        ensures best { IsTrue (state self.old).honest → IfOk result (λ known. IfSome known (λ best. (name : List ℕ) → contains same_name best name ≡ is_best_of (state self.old).objects a b name)) }
+        // Over any store.
+        ensures seen { IfOk result (λ known. IfSome known (λ best. (name : List ℕ) → contains same_name best name ≡ true → map.contains_key (state self.old).objects name ≡ true)) }
+        ensures asked { IsAsked (state self.old) (state self.new) None }
+    {
+        let _alloc = alloc;
+        let _a = a;
+        let _b = b;
+        let unknown = None;
+        Ok(unknown)
     }
 
     /// The committer's seconds since 1970 of the commit of this name, and 0 of another object, if it knows them. It

@@ -1,4 +1,4 @@
--- What a payload asks for, it spells.
+-- A payload spells what it asks for.
 use Rattle.std.proofs.Common.{◌≡◌, ◌≢◌, ℕ, ◌*◌, ◌≤◌, Bool, true, false, cond, List, [], ◌∷◌, ◌++◌, Option, Some, None, Result, Ok, Err, refl, sym, ap, subst, ◌∙◌, inl, inr, ◌⊎◌, arith, codes, length, nat_le}
 use Rattle.std.specs.Str.{bytes_eq}
 use Rattle.std.proofs.lemmas.Bool.Decides.{nat_tests}
@@ -31,7 +31,7 @@ IsSole rest words = (words ≡ None) ⊎ ((words ≡ Some rest) × IsWord rest)
 right_at : (payload : List ℕ) (ask other : Ask) → ask ≡ other → Spells other payload → Right payload ask
 right_at payload ask other same spells = inr (subst (λ a. Spells a payload) (sym same) spells)
 
--- LF, and what stands behind it
+-- LF, and what follows it
 line_end : (line body : List ℕ) → line ++ 10 ∷ body ≡ line ++ codes "\n" ++ body
 line_end line body = sym (append_assoc line (codes "\n") body)
 
@@ -128,7 +128,7 @@ bases_right payload rest [] words is (inr some) =
     right_at payload _ _ (ap (λ o. asked_bases o []) some.1) (some.0.is_first, some.0.is_second, some.0.is_third, is ∙ line)
 bases_right payload rest (b ∷ body) words is (inr some) = inl (ap (λ o. asked_bases o (b ∷ body)) some.1)
 
--- a line of two words behind a verb
+-- a line of two words after a verb
 two_words : (verb first second rest end : List ℕ) → rest ≡ first ++ 32 ∷ second → verb ++ rest ++ end ≡ verb ++ first ++ codes " " ++ second ++ end
 two_words verb first second rest end is =
     ap (λ text. verb ++ text ++ end) is ∙ ap (λ text. text ++ end) (sym (append_assoc verb first (32 ∷ second)) ∙ sym (append_assoc (verb ++ first) (codes " ") second))

@@ -1,4 +1,4 @@
--- Lines that are written out, as the definitions compute them.
+-- Example lines, as the definitions compute them.
 use Rattle.std.proofs.Common.{◌≡◌, ◌++◌, ℕ, List, [], ◌∷◌, codes, refl}
 use Rattle.hex.specs.Hex.{encode_lower}
 use Rattle.git_name.specs.Text.{words_of}

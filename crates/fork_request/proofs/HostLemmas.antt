@@ -21,7 +21,7 @@ use Rattle.fork_request.proofs.AskingLemmas.{IsSole, by_word}
 use Rattle.fork_request.proofs.PartLemmas.{Parted, lacks_behind, lacks_by, parted, sole_right, some_there}
 use Rattle.fork_request.proofs.WordLemmas.{host_many}
 
--- ---- what a payload asks for, it spells
+-- ---- a payload spells what it asks for
 
 -- a payload is no request, or spells one
 abbrev Right : List ℕ → HostRequest → Type 0
@@ -91,9 +91,9 @@ host_right payload request is asks = by (nat_le (length payload) MAX_PAYLOAD) is
     by true same = spelled (parts_right payload) same
     by false same = absurd (asks (sym same))
 
--- ---- and what spells something asks for it
+-- ---- and a payload asks for what it spells
 
--- by its line, where that is no longer than it may be
+-- a payload that is no longer than allowed is read by its line
 host_line : (payload line body : List ℕ) → payload ≡ line ++ 10 ∷ body → Lacks 10 line → length payload ≤ MAX_PAYLOAD → asked_host payload ≡ host_words (words_of line) body
 unfolding asked_host
 host_line payload line body is ends fits =

@@ -30,7 +30,7 @@ item_passes (b ∷ word) item = by (bytes_eq (b ∷ word) (codes "^")) (bytes_eq
     by true same = absurd (item.more (same refl))
     by false same = refl
 
--- a line has a word, so its words are items where each is one
+-- a line has a word, so its words are items if each is one
 pub items_are : (text : List ℕ) (t : Bool) → list_all is_item (words_of text) ≡ t → items_in (words_of text) ≡ cond t (Some (words_of text)) None
 items_are text t is = by (words_of text) (first_of_words text).0 (first_of_words text).1 (first_of_words text).2 is
   where
@@ -75,7 +75,7 @@ words_right text ends passes = record {
       };
 }
 
--- ---- words behind spaces
+-- ---- words after spaces
 
 behind_spaced : (word : List ℕ) (words : List (List ℕ)) → behind_spaces (word ∷ words) ≡ 32 ∷ spaced (word ∷ words)
 behind_spaced word [] = ap (λ text. 32 ∷ text) (append-nil word)
@@ -86,7 +86,7 @@ behind_words text =
     let more = first_of_words text in
     ap behind_spaces more.2 ∙ behind_spaced more.0 more.1 ∙ ap (λ (line : List ℕ). 32 ∷ line) (ap spaced (sym more.2) ∙ spaced-words_of text)
 
--- the words of a line that is put together
+-- the words of a line put together from words
 pub words_of-behind : (word : List ℕ) (words : List (List ℕ)) → Lacks 32 word → All (Lacks 32) words → words_of (word ++ behind_spaces words) ≡ word ∷ words
 words_of-behind word [] lacks each = ap words_of (append-nil word) ∙ words_of-plain word lacks
 words_of-behind word (other ∷ words) lacks each =
@@ -98,7 +98,7 @@ behind_lacks (word ∷ words) each =
     All-cons (λ b. b ≢ 10) 32 (word ++ behind_spaces words) (λ same. omega (arith, same))
     (All-append (λ b. b ≢ 10) word (behind_spaces words) (All-head (Lacks 10) word words each) (behind_lacks words (All-tail (Lacks 10) word words each)))
 
--- ---- a word, and items behind it
+-- ---- a word, and items after it
 
 pub record WordAndItems (text : List ℕ) : Type 0 where
   pub word : List ℕ
@@ -118,7 +118,7 @@ no_items : (one : Option (List ℕ)) → and_items one None ≡ None
 no_items None = refl
 no_items (Some word) = refl
 
--- what stands behind a verb is a word and items, or the reader has none
+-- what follows a verb is a word and items, or is read as none
 pub word_and_items_right : (rest : List ℕ) → Lacks 10 rest → (word_and_items (words_of rest) ≡ None) ⊎ ((t : WordAndItems rest) × (word_and_items (words_of rest) ≡ Some (t.word, t.items)))
 word_and_items_right rest ends = by (parted 32 rest)
   where

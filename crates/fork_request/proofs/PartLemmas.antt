@@ -26,7 +26,7 @@ not_byte b byte is same = grind (arith, nat_tests)
 pub lacks_by : (byte : ℕ) (text : List ℕ) → list_all (λ b. not (eqb b byte)) text ≡ true → Lacks byte text
 lacks_by byte text is = λ k d within. not_byte _ byte (AllPass-from_list_all (λ b. not (eqb b byte)) text is k d within)
 
--- a text's front up to such a byte, and what stands behind it
+-- a text's front up to the byte, and what follows it
 pub record Parted (byte : ℕ) (text : List ℕ) : Type 0 where
   pub front : List ℕ
   pub behind : List ℕ
@@ -50,12 +50,12 @@ part_more byte b text false is (inr part) =
       whole = ap (λ xs. b ∷ xs) part.whole;
     })
 
--- each text is without such a byte, or is parted there
+-- every text lacks the byte, or is split at it
 pub parted : (byte : ℕ) (text : List ℕ) → Lacks byte text ⊎ Parted byte text
 parted byte [] = inl (All-nil (λ b. b ≢ byte))
 parted byte (b ∷ text) = part_more byte b text (eqb b byte) refl (parted byte text)
 
--- a word that is there
+-- a word that is not empty
 pub some_there : (word : List ℕ) → 1 ≤ length word → some_word word ≡ Some word
 some_there [] some = absurd (omega arith)
 some_there (b ∷ word) some = refl
@@ -64,7 +64,7 @@ pub some_right : (word : List ℕ) → Lacks 32 word → Lacks 10 word → (some
 some_right [] spaces ends = inl refl
 some_right (b ∷ word) spaces ends = inr (refl, record { some = omega arith; no_space = spaces; no_line_end = ends })
 
--- what stands behind a verb is one word, or the reader has none
+-- what follows a verb is one word, or is read as none
 pub sole_right : (rest : List ℕ) → Lacks 10 rest → (sole (words_of rest) ≡ None) ⊎ ((sole (words_of rest) ≡ Some rest) × IsWord rest)
 sole_right rest ends = by (parted 32 rest)
   where
@@ -76,7 +76,7 @@ sole_right rest ends = by (parted 32 rest)
     by (inl spaces) = one (words_of-plain rest spaces) (some_right rest spaces ends)
     by (inr part) = inl (ap (λ text. sole (words_of text)) part.whole ∙ ap sole (words_of-append part.front part.behind part.lacks) ∙ sole_many part.front part.behind)
 
--- two words, parted by a space
+-- two words, separated by a space
 pub record TwoWords (text : List ℕ) : Type 0 where
   pub first : List ℕ
   pub second : List ℕ
@@ -94,7 +94,7 @@ no_second : (one : Option (List ℕ)) → both_words one None ≡ None
 no_second None = refl
 no_second (Some first) = refl
 
--- what stands behind a verb is two words, or the reader has none
+-- what follows a verb is two words, or is read as none
 pub pair_right : (rest : List ℕ) → Lacks 10 rest → (pair (words_of rest) ≡ None) ⊎ ((t : TwoWords rest) × (pair (words_of rest) ≡ Some (t.first, t.second)))
 pair_right rest ends = by (parted 32 rest)
   where
@@ -115,7 +115,7 @@ pair_right rest ends = by (parted 32 rest)
         let behind = All-tail (λ b. b ≢ 10) 32 part.behind (lacks_behind 10 part.front (32 ∷ part.behind) whole) in
         made part (both_right part.front part.behind (some_word part.front) (sole (words_of part.behind)) (some_right part.front part.lacks front) (sole_right part.behind behind))
 
--- three words, parted by a space each
+-- three words, separated by a space each
 pub record ThreeWords (text : List ℕ) : Type 0 where
   pub first : List ℕ
   pub second : List ℕ
@@ -125,7 +125,7 @@ pub record ThreeWords (text : List ℕ) : Type 0 where
   pub is_third : IsWord third
   pub whole : text ≡ first ++ 32 ∷ (second ++ 32 ∷ third)
 
--- a line of three words behind a verb
+-- a line of three words after a verb
 pub three_line : (verb first second third : List ℕ) → verb ++ (first ++ 32 ∷ (second ++ 32 ∷ third)) ++ 10 ∷ [] ≡ verb ++ first ++ codes " " ++ second ++ codes " " ++ third ++ codes "\n"
 three_line verb first second third = simp append_assoc
 
@@ -133,7 +133,7 @@ no_others : (one : Option (List ℕ)) → all_words one None ≡ None
 no_others None = refl
 no_others (Some first) = refl
 
--- what stands behind a verb is three words, or the reader has none
+-- what follows a verb is three words, or is read as none
 pub three_right : (rest : List ℕ) → Lacks 10 rest → (three (words_of rest) ≡ None) ⊎ ((t : ThreeWords rest) × (three (words_of rest) ≡ Some (t.first, t.second, t.third)))
 three_right rest ends = by (parted 32 rest)
   where
@@ -169,7 +169,7 @@ three_right rest ends = by (parted 32 rest)
 many_words : (word rest : List ℕ) → one_or_two (word ∷ words_of rest) ≡ and_word (pair (word ∷ words_of rest))
 many_words word rest = (let more = first_of_words rest in ap (λ words. one_or_two (word ∷ words)) more.2 ∙ sym (ap (λ words. and_word (pair (word ∷ words))) more.2))
 
--- what stands behind a verb is one word or two, or the reader has none
+-- what follows a verb is one word or two, or is read as none
 pub one_or_two_right : (rest : List ℕ) → Lacks 10 rest
     → (one_or_two (words_of rest) ≡ None) ⊎ ((one_or_two (words_of rest) ≡ Some (rest, None)) × IsWord rest) ⊎ ((t : TwoWords rest) × (one_or_two (words_of rest) ≡ Some (t.first, Some t.second)))
 one_or_two_right rest ends = by (parted 32 rest)

@@ -22,7 +22,7 @@ pub record IsVerb (verb : List ℕ) : Type 0 where
   pub spaces : All (λ b. b ≢ 32) verb
   pub ends : All (λ b. b ≢ 10) verb
 
--- by its line, where that is no longer than it may be
+-- a payload that is no longer than allowed is read by its line
 asked_line : (payload line body : List ℕ) → payload ≡ line ++ 10 ∷ body → Lacks 10 line → length payload ≤ MAX_PAYLOAD → asked payload ≡ asked_words (words_of line) body
 unfolding asked
 asked_line payload line body is ends fits =
@@ -52,15 +52,15 @@ with_words payload verb words body is_verb are is fits =
     asked_line payload (verb ++ behind_spaces words) body is (All-append (λ b. b ≢ 10) verb (behind_spaces words) is_verb.ends ends) fits
     ∙ ap (λ ws. asked_words ws body) (words_of-behind verb words is_verb.spaces spaces)
 
--- LF at the end of a line, and a body behind it
+-- LF at the end of a line, and a body after it
 line_end : (payload line body : List ℕ) → payload ≡ line ++ codes "\n" ++ body → payload ≡ line ++ 10 ∷ body
 line_end payload line body is = is ∙ append_assoc line (codes "\n") body
 
--- two words behind a verb
+-- two words after a verb
 two_words : (payload verb one two : List ℕ) → payload ≡ verb ++ one ++ codes " " ++ two ++ codes "\n" → payload ≡ verb ++ (one ++ 32 ∷ two) ++ codes "\n"
 two_words payload verb one two is = is ∙ ap (λ text. text ++ codes "\n") (append_assoc (verb ++ one) (codes " ") two ∙ append_assoc verb one (32 ∷ two))
 
--- three words behind a verb
+-- three words after a verb
 three_words : (payload verb first second third : List ℕ) → payload ≡ (verb ++ codes " ") ++ first ++ codes " " ++ second ++ codes " " ++ third ++ codes "\n"
     → payload ≡ (verb ++ behind_spaces (first ∷ second ∷ third ∷ [])) ++ 10 ∷ []
 three_words payload verb first second third is =
@@ -98,7 +98,7 @@ verb_by verb spaces ends = record { spaces = lacks_by 32 verb spaces; ends = lac
 two_there : (one two : List ℕ) → IsWord one → IsWord two → both_words (some_word one) (some_word two) ≡ Some (one, two)
 two_there one two is_one is_two = ap (λ o. both_words o (some_word two)) (some_there one is_one.some) ∙ ap (both_words (Some one)) (some_there two is_two.some)
 
--- three words are there
+-- three words are not empty
 three_there : (first second third : List ℕ) → IsWord first → IsWord second → IsWord third → all_words (some_word first) (both_words (some_word second) (some_word third)) ≡ Some (first, second, third)
 three_there first second third is_first is_second is_third =
     ap (λ o. all_words o (both_words (some_word second) (some_word third))) (some_there first is_first.some) ∙ ap (all_words (Some first)) (two_there second third is_second is_third)
@@ -114,7 +114,7 @@ words_are repository items is are = All-cons IsWord repository items is (All-wea
 items_read : (repository : List ℕ) (items : List (List ℕ)) → IsWord repository → AreItems items → and_items (some_word repository) (items_in items) ≡ Some (repository, items)
 items_read repository items is are = ap (λ o. and_items o (items_in items)) (some_there repository is.some) ∙ ap (and_items (Some repository)) (items_there items are)
 
--- what spells something asks for it
+-- a payload asks for what it spells
 pub spelled_asked : (payload : List ℕ) (ask : Ask) → length payload ≤ MAX_PAYLOAD → Spells ask payload → asked payload ≡ ask
 spelled_asked payload (Inits repository) fits spells =
     with_word payload (codes "init") repository [] (verb_by (codes "init") refl refl) spells.0 spells.1 fits ∙ ap (λ o. asked_init o []) (some_there repository spells.0.some)

@@ -95,7 +95,7 @@ asked_part_end (Some repository) [] = EndsParts repository
 asked_part_end (Some repository) (b ∷ body) = NoRequest
 asked_part_end None body = NoRequest
 
--- this, if nothing follows the line
+-- this request, if nothing follows its line
 abbrev pub asked_plain : Ask → List ℕ → Ask
 asked_plain ask [] = ask
 asked_plain ask (b ∷ body) = NoRequest
@@ -204,7 +204,8 @@ asked_verb verb words body =
     else if bytes_eq verb (codes "set-head") then asked_set_head (pair words) body
     else asked_offering verb words body
 
--- the request, depending on a verb that stands alone: `part` and a body, `part-drop`, `offers`, `repos`, `quota`, `prune`
+-- the request, depending on a verb without words after it: `part` and a body, `part-drop`, `offers`, `repos`,
+-- `quota`, `prune`
 abbrev pub asked_alone : List ℕ → List ℕ → Ask
 asked_alone verb body =
     if bytes_eq verb (codes "part") then SendsPart body
@@ -232,7 +233,7 @@ asked payload = if nat_le (length payload) MAX_PAYLOAD then asked_parts (split_o
 
 -- ---- what is asked of the host itself
 
--- this, if nothing follows the line
+-- this request, if nothing follows its line
 abbrev pub host_plain : HostRequest → List ℕ → HostRequest
 host_plain request [] = request
 host_plain request (b ∷ body) = Bad_host
@@ -251,7 +252,7 @@ host_sweep None body = Bad_host
 abbrev pub host_verb : List ℕ → List (List ℕ) → List ℕ → HostRequest
 host_verb verb words body = if bytes_eq verb (codes "sweep") then host_sweep (sole words) body else Bad_host
 
--- the request, depending on a verb that stands alone: `collect`, `census`, `fsck`, `tenants`
+-- the request, depending on a verb without words after it: `collect`, `census`, `fsck`, `tenants`
 abbrev pub host_alone : List ℕ → List ℕ → HostRequest
 host_alone verb body =
     if bytes_eq verb (codes "collect") then host_plain Collect body

@@ -17,6 +17,6 @@ Harmed = List (List ℕ × Harm)
 abbrev pub harm_line : List ℕ × Harm → List ℕ
 harm_line entry = harm_word entry.1 ++ codes " " ++ encode_lower entry.0 ++ codes "\n"
 
--- the lines of all
+-- the lines of all objects
 abbrev pub harm_lines : Harmed → List ℕ
 harm_lines harms = flat_map harm_line harms

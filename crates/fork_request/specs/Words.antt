@@ -1,4 +1,4 @@
--- The words after a verb (own): none of them may be empty, and an item is more than `^`.
+-- The words after a verb (own): none of them may be empty, and no item is `^` alone.
 use Rattle.std.specs.Prelude.{ℕ, Bool, false, not, List, [], ◌∷◌, Option, None, Some, option_map, codes, if◌then◌else◌}
 use Rattle.std.specs.List.{list_all}
 use Rattle.std.specs.Str.{bytes_eq}
@@ -8,7 +8,7 @@ abbrev pub some_word : List ℕ → Option (List ℕ)
 some_word [] = None
 some_word (b ∷ bs) = Some (b ∷ bs)
 
--- the only word there
+-- the only word
 abbrev pub sole : List (List ℕ) → Option (List ℕ)
 sole [] = None
 sole (word ∷ []) = some_word word
@@ -19,7 +19,7 @@ both_words (Some first) (Some second) = Some (first, second)
 both_words (Some first) None = None
 both_words None second = None
 
--- the only two words there
+-- the only two words
 abbrev pub pair : List (List ℕ) → Option (List ℕ × List ℕ)
 pair [] = None
 pair (word ∷ words) = both_words (some_word word) (sole words)
@@ -29,7 +29,7 @@ all_words (Some first) (Some p) = Some (first, p.0, p.1)
 all_words (Some first) None = None
 all_words None p = None
 
--- the only three words there
+-- the only three words
 abbrev pub three : List (List ℕ) → Option (List ℕ × List ℕ × List ℕ)
 three [] = None
 three (word ∷ words) = all_words (some_word word) (pair words)
@@ -38,13 +38,13 @@ abbrev pub and_word : Option (List ℕ × List ℕ) → Option (List ℕ × Opti
 and_word None = None
 and_word (Some p) = Some (p.0, Some p.1)
 
--- the only word there, or the only two
+-- the only word, or the only two
 abbrev pub one_or_two : List (List ℕ) → Option (List ℕ × Option (List ℕ))
 one_or_two [] = None
 one_or_two (word ∷ []) = option_map (λ first. (first, None)) (some_word word)
 one_or_two (word ∷ other ∷ words) = and_word (pair (word ∷ other ∷ words))
 
--- an item: some bytes, and not `^` alone
+-- an item: not empty, and not `^` alone
 abbrev pub is_item : List ℕ → Bool
 is_item [] = false
 is_item (b ∷ bs) = not (bytes_eq (b ∷ bs) (codes "^"))

@@ -21,7 +21,7 @@ impl Model for ByteString {
 }
 
 impl ByteString {
-    /// These bytes. It allocates nothing.
+    /// A string of these bytes. It allocates nothing.
     pub fn new(bytes: Vec<u8>) -> ByteString
         ensures { result ≡ bytes.items }
     {

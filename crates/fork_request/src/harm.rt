@@ -24,7 +24,7 @@ impl Harm {
         }
     }
 
-    /// Adds the line that reports this harm for the object of this name.
+    /// Appends the line that reports this harm to the object of this name.
     pub fn write(self, name: Name, text: &mut Vec<u8>) -> Result<(), AllocError>
         ensures { OnOk result (text.new.items ≡ text.old.items ++ harm_line (name, self)) }
     {

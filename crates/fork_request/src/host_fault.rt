@@ -10,7 +10,7 @@ pub enum HostFault {
     Store,
     /// The store no longer has what a tenant sees.
     Damaged,
-    /// Two different objects of one name met.
+    /// Two different objects with the same name met.
     Collision,
 }
 

@@ -9,11 +9,11 @@ use git_name::{decimal, first_word, split_once};
 /// The most places of the catalogue that one sweep may look at (own).
 pub const MAX_SWEEP: u64 = 1_048_576;
 
-/// A request of the host itself, which names no tenant.
+/// A request to the host itself, which names no tenant.
 #[derive(Clone, Copy, Debug, PartialEq, Eq)]
 pub enum HostRequest {
-    /// `sweep K`: looks at the next places of the catalogue, at most this many, and removes what nobody
-    /// holds. The number is in decimal, without leading zeros.
+    /// `sweep K`: looks at the next places of the catalogue, at most K, and removes what nobody holds. K is
+    /// in decimal, without leading zeros.
     Sweep(u64),
     /// `collect`: looks at each place once, from the beginning.
     Collect,
@@ -31,7 +31,7 @@ impl HostRequest {
     ghost use Rattle.fork_request.specs.Asked.{asked_host};
 
     #[tactic(auto, unfolding(crate::specs::Asked::asked_host))]
-    /// What a payload asks of the host. Every payload is a request, or a bad one.
+    /// Reads what a payload asks of the host. Every payload is a request, or a bad one.
     pub fn read(payload: &[u8]) -> HostRequest
         ensures { result ≡ asked_host payload.now }
     {
@@ -55,7 +55,7 @@ fn read_line(line: &[u8], body: &[u8]) -> HostRequest
     }
 }
 
-// What a verb asks that stands alone.
+// What a verb without words after it asks.
 fn read_verb(verb: &[u8], body: &[u8]) -> HostRequest
     ensures { result ≡ host_alone verb.now body.now }
 {

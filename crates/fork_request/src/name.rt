@@ -8,10 +8,10 @@ use crate::plain_word::is_plain_word;
 use std::cmp::Ordering;
 use std::marker::Model;
 
-/// The most bytes of a tenant's name (own).
+/// The greatest length of a tenant's name in bytes (own).
 pub const MAX_TENANT_NAME: usize = 32;
 
-/// The most bytes of a repository's name (own).
+/// The greatest length of a repository's name in bytes (own).
 pub const MAX_REPOSITORY_NAME: usize = 64;
 
 /// A tenant's name, of 1 to 32 bytes.
@@ -20,8 +20,8 @@ pub type TenantName = PlainName<MAX_TENANT_NAME>;
 /// A repository's name, of 1 to 64 bytes.
 pub type RepositoryName = PlainName<MAX_REPOSITORY_NAME>;
 
-/// A name of 1 to `MOST` bytes of `a` to `z`, digits, `-` and `_`, of which the first is a letter or
-/// a digit (own). Names are ordered bytewise.
+/// A name of 1 to `MOST` bytes from `a` to `z`, digits, `-` and `_`. The first is a letter or a digit (own).
+/// Names are ordered bytewise.
 #[derive(Debug, Drop)]
 pub struct PlainName<const MOST: usize> {
     bytes: [u8; MOST],
@@ -43,7 +43,7 @@ impl<const MOST: usize> Model for PlainName<MOST> {
 }
 
 impl<const MOST: usize> PlainName<MOST> {
-    /// The name of these bytes, if they are a valid one. It allocates nothing.
+    /// Reads a name from its bytes. It allocates nothing.
     pub fn read(text: &[u8]) -> Option<PlainName<MOST>>
         ensures found { IfSome result (λ name. (name ≡ text.now) × IsPlainName MOST text.now) }
         ensures none { IfNone result (¬ IsPlainName MOST text.now) }

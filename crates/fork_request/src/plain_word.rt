@@ -1,4 +1,4 @@
-// Words of small letters, digits, `-` and `_`.
+// Words of lower-case letters, digits, `-` and `_`.
 ghost use Rattle.std.specs.Prelude.{◌↔◌, ◌≡◌, IsTrue, All, true};
 ghost use Rattle.fork_request.specs.Names.{IsPlainName, starts_a_name, stands_in_a_name};
 
@@ -9,7 +9,7 @@ fn is_start_byte(byte: u8) -> bool
     97 <= byte && byte <= 122 || 48 <= byte && byte <= 57
 }
 
-// Whether a name may hold this byte.
+// Whether a name may contain this byte.
 fn is_name_byte(byte: u8) -> bool
     ensures { result ≡ stands_in_a_name byte }
 {

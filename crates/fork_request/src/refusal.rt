@@ -15,7 +15,7 @@ pub enum Refusal {
     BadRequest,
     /// The host has no tenant of this name.
     UnknownTenant,
-    /// This word is not a repository's name.
+    /// The word is not a repository's name.
     BadName(ByteString),
     /// The tenant has this repository already.
     RepositoryExists(RepositoryName),
@@ -31,7 +31,7 @@ pub enum Refusal {
     Stale(RefName),
     /// Afterwards another reference would be below this one.
     RefConflict(RefName),
-    /// The object is not a commit, as it must be.
+    /// The object is not a commit, but must be one.
     NotACommit(Name),
     /// The tenant sees no object of this name.
     Missing(Name),
@@ -61,14 +61,14 @@ pub enum Refusal {
     UploadOpen,
     /// This tenant has an offer of this repository already.
     OfferExists(TenantName, RepositoryName),
-    /// There is no such offer: the other tenant, and the repository.
+    /// There is no such offer. The fields are the other tenant and the repository.
     NoOffer(TenantName, RepositoryName),
 }
 
 impl Refusal {
     ghost use Rattle.fork_request.specs.Told.{refusal_text};
 
-    /// Adds the refusal's word, and what it is about after a space.
+    /// Appends the refusal's word, and what it is about after a space.
     pub(crate) fn write(&self, text: &mut Vec<u8>) -> Result<(), AllocError>
         ensures { OnOk result (text.new.items ≡ text.old.items ++ refusal_text self.now) }
     {

@@ -20,7 +20,7 @@ pub enum Reply {
 impl Reply {
     ghost use Rattle.fork_request.specs.Told.{bytes_of};
 
-    /// The bytes of the reply.
+    /// Returns the bytes of the reply.
     pub fn bytes(&self, alloc: Global) -> Result<Vec<u8>, AllocError>
         ensures { IfOk result (λ text. text.items ≡ bytes_of self.now) }
     {

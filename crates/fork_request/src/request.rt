@@ -9,7 +9,7 @@ use changes::{drop_of, fork, init, part_end, push, set_head, update_refs};
 use git_name::{first_word, split_once};
 use offers::read_offering;
 
-/// The most bytes that a payload has.
+/// The greatest length of a payload in bytes.
 pub const MAX_PAYLOAD: usize = 1_048_576;
 
 /// A tenant's request. Its words and its body are borrowed from the payload. A word is any bytes except
@@ -32,7 +32,7 @@ pub enum Request<'a> {
     PartDrop,
     /// `update-refs REPO` and a body: a transaction of references.
     UpdateRefs(&'a [u8], &'a [u8]),
-    /// `set-head REPO REF`: lets HEAD of a repository name another branch.
+    /// `set-head REPO REF`: makes HEAD of a repository name another branch.
     SetHead(&'a [u8], &'a [u8]),
     /// `offer REPO TENANT`: shows a repository, as it is now, to another tenant.
     Offer(&'a [u8], &'a [u8]),
@@ -73,7 +73,7 @@ impl<'a> Request<'a> {
     ghost use Rattle.fork_request.specs.Asked.{ask_of, asked};
 
     #[tactic(auto, unfolding(crate::specs::Asked::asked))]
-    /// What a payload asks. Every payload is a request, or a bad one.
+    /// Reads what a payload asks. Every payload is a request, or a bad one.
     pub fn read(payload: &'a [u8]) -> Request<'a>
         ensures { ask_of result ≡ asked payload.now }
     {
@@ -100,7 +100,7 @@ fn read_line<'a>(line: &'a [u8], body: &'a [u8]) -> Request<'a>
     }
 }
 
-// What a verb asks that stands alone.
+// What a verb without words after it asks.
 fn read_verb<'a>(verb: &'a [u8], body: &'a [u8]) -> Request<'a>
     ensures { ask_of result ≡ asked_alone verb.now body.now }
 {
@@ -153,7 +153,7 @@ fn read_words<'a>(verb: &'a [u8], words: &'a [u8], body: &'a [u8]) -> Request<'a
     read_offering(verb, words, body)
 }
 
-// This, if nothing follows the line.
+// The request, if nothing follows its line, or else a bad one.
 fn plain<'a>(request: Request<'a>, body: &'a [u8]) -> Request<'a>
     ensures { ask_of result ≡ asked_plain (ask_of request.entry) body.now }
 {

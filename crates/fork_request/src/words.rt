@@ -1,4 +1,4 @@
-// The words after a verb: none of them may be empty.
+// The words after a verb. None of them may be empty.
 ghost use Rattle.std.specs.Prelude.{◌≡◌, option_map};
 ghost use Rattle.std.specs.List.{list_all};
 ghost use Rattle.std.specs.Str.{bytes_eq};
@@ -24,7 +24,7 @@ fn some_word(word: &[u8]) -> Option<&[u8]>
     Some(word)
 }
 
-// The only word there.
+// The only word, if there is just one.
 pub(crate) fn sole_word(words: &[u8]) -> Option<&[u8]>
     ensures { option_map (λ word. word.now) result ≡ sole (words_of words.now) }
 {
@@ -34,7 +34,7 @@ pub(crate) fn sole_word(words: &[u8]) -> Option<&[u8]>
     }
 }
 
-// The only two words there.
+// The only two words, if there are just two.
 pub(crate) fn two_words(words: &[u8]) -> Option<(&[u8], &[u8])>
     ensures { option_map (λ p. (p.0.now, p.1.now)) result ≡ pair (words_of words.now) }
 {
@@ -44,7 +44,7 @@ pub(crate) fn two_words(words: &[u8]) -> Option<(&[u8], &[u8])>
     Some((first, second))
 }
 
-// The only three words there.
+// The only three words, if there are just three.
 pub(crate) fn three_words(words: &[u8]) -> Option<(&[u8], &[u8], &[u8])>
     ensures { option_map (λ p. (p.0.now, p.1.now, p.2.now)) result ≡ three (words_of words.now) }
 {
@@ -54,7 +54,7 @@ pub(crate) fn three_words(words: &[u8]) -> Option<(&[u8], &[u8], &[u8])>
     Some((first, second, third))
 }
 
-// The only word there, or the only two.
+// The only word, or the only two.
 pub(crate) fn one_or_two_words(words: &[u8]) -> Option<(&[u8], Option<&[u8]>)>
     ensures { option_map (λ p. (p.0.now, option_map (λ word. word.now) p.1)) result ≡ one_or_two (words_of words.now) }
 {
@@ -65,7 +65,7 @@ pub(crate) fn one_or_two_words(words: &[u8]) -> Option<(&[u8], Option<&[u8]>)>
     Some((first, Some(second)))
 }
 
-// Whether a word is an item: some bytes, and not `^` alone.
+// Whether a word is an item: not empty, and not `^` alone.
 fn is_item(word: &[u8]) -> bool
     ensures { result ≡ passes word.now }
 {

@@ -1,4 +1,4 @@
--- Objects are judged by what was read of them as they are by their bytes.
+-- Judging objects by what was read gives the same result as judging them by their bytes.
 use Rattle.std.proofs.Common.{◌≡◌, ℕ, Bool, true, false, not, List, [], ◌∷◌, Option, None, Some, cond, refl, ap, ◌∙◌}
 use Rattle.std.specs.Prelude.{◌||◌, Contains, is_none}
 use Rattle.std.specs.BTreeSet.{BTreeSet, contains}
@@ -17,7 +17,7 @@ use Rattle.fork_reach.specs.Source.{Objects, kind_in}
 use Rattle.fork_sound.specs.Reading.{AreReadings, ReadingMap, is_bad_read, is_bad_reading, is_unmet_read, kind_read, object_reading}
 use Rattle.fork_sound.specs.Sound.{is_bad, is_bad_found, is_other, is_unmet}
 
--- the kind of what is seen was read
+-- the kind read under a seen name is that of its object
 same_kind_read : (readings : ReadingMap) (seen : List ℕ → Bool) (objects : Objects) (name : List ℕ) → AreReadings readings seen objects → seen name ≡ true → kind_read readings name ≡ kind_in objects name
 same_kind_read readings seen objects name are is = ap (option_map (λ reading. reading.kind)) (are name is) ∙ by (get objects name)
   where
@@ -25,7 +25,7 @@ same_kind_read readings seen objects name are is = ap (option_map (λ reading. r
     by None = refl
     by (Some object) = refl
 
--- a link is met by what was read where it is met
+-- a link is met by what was read if and only if it is met
 same_unmet : (readings : ReadingMap) (seen : List ℕ → Bool) (objects : Objects) → AreReadings readings seen objects → (link : Link) → is_unmet_read readings seen link ≡ is_unmet objects seen link
 same_unmet readings seen objects are link = by (seen link.name) refl
   where
@@ -33,7 +33,7 @@ same_unmet readings seen objects are link = by (seen link.name) refl
     by true is = ap (is_other link.kind) (same_kind_read readings seen objects link.name are is)
     by false is = refl
 
--- what stands under a name that is seen is bad by what was read where it is bad
+-- the object of a seen name is bad by what was read if and only if it is bad
 same_bad : (readings : ReadingMap) (seen : List ℕ → Bool) (objects : Objects) (name : List ℕ) → AreReadings readings seen objects → seen name ≡ true → is_bad_read readings seen name ≡ is_bad objects seen name
 same_bad readings seen objects name are is = ap (is_bad_reading readings seen) (are name is) ∙ by (get objects name)
   where
@@ -41,7 +41,7 @@ same_bad readings seen objects name are is = ap (is_bad_reading readings seen) (
     by None = refl
     by (Some object) = λ i. is_none (object_in object.kind object.bytes) || list_any (λ link. same_unmet readings seen objects are link i) (links_in object.kind object.bytes)
 
--- the first that passes of two tests that agree on each
+-- two tests that agree on each name find the same first name
 same_find : (p q : List ℕ → Bool) (names : List (List ℕ)) → All (λ name. p name ≡ q name) names → find p names ≡ find q names
 same_find p q [] same = refl
 same_find p q (name ∷ names) same =

@@ -1,4 +1,4 @@
--- What is reported of the first bad object: a blob is never bad, and if none is bad all are sound.
+-- The first bad object: a blob is never bad, and if no object is bad, all are sound.
 use Rattle.std.proofs.Common.{◌≡◌, ◌≢◌, ℕ, Bool, true, false, not, List, [], ◌∷◌, Option, None, Some, cond, refl, sym, ap, ◌∙◌, is_some}
 use Rattle.std.specs.Prelude.{◌||◌, is_none}
 use Rattle.std.specs.List.{AllByRecursion, find, list_any}
@@ -26,7 +26,7 @@ none_bad bad (name ∷ names) none = by (bad name) none (none_bad bad names)
     by true is rest = absurd (cc)
     by false is rest = rest is
 
--- what stands under a name that is not bad
+-- the object of a name that is not bad
 pub record IsSound (objects : Objects) (seen : List ℕ → Bool) (object : Object) : Type 0 where
   pub right : object_in object.kind object.bytes ≢ None
   pub met : list_any (is_unmet objects seen) (links_in object.kind object.bytes) ≡ false
@@ -65,7 +65,7 @@ same_kinds Tag Blob is = absurd (cc)
 same_kinds Tag Tree is = absurd (cc)
 same_kinds Tag Commit is = absurd (cc)
 
--- a link that is met, where all that is seen is there
+-- a link that is met, if all that is seen exists
 pub met_link : (objects : Objects) (seen : List ℕ → Bool) (link : Link) → ((name : List ℕ) → seen name ≡ true → is_some (get objects name) ≡ true) → is_unmet objects seen link ≡ false → kind_in objects link.name ≡ Some link.kind
 met_link objects seen link there met =
     let parts = either_false (not (seen link.name)) (is_other link.kind (kind_in objects link.name)) met in
@@ -79,7 +79,7 @@ met_link objects seen link there met =
     by None is other = absurd (cc)
     by (Some object) is other = ap Some (sym (same_kinds link.kind object.kind other))
 
--- all links of an object
+-- all links of an object, if all that is seen exists
 pub all_met : (objects : Objects) (seen : List ℕ → Bool) (links : List Link) → ((name : List ℕ) → seen name ≡ true → is_some (get objects name) ≡ true) → list_any (is_unmet objects seen) links ≡ false
     → AllByRecursion (λ link. kind_in objects link.name ≡ Some link.kind) links
 all_met objects seen [] there met = tt

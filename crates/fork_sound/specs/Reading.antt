@@ -30,7 +30,7 @@ object_reading object = record {
 abbrev pub ReadingMap : Type 0
 ReadingMap = FinMap name_cmp ReadingValue
 
--- these are the readings of the objects that are found under the names that are seen
+-- the readings are those of the objects under the names that are seen
 abbrev pub AreReadings : ReadingMap → (List ℕ → Bool) → Objects → Type 0
 AreReadings readings seen objects = (name : List ℕ) → seen name ≡ true → get readings name ≡ option_map object_reading (get objects name)
 

@@ -17,11 +17,11 @@ is_other kind found = is_some found && not (has_kind kind found)
 abbrev pub is_unmet : Objects → (List ℕ → Bool) → Link → Bool
 is_unmet objects seen link = not (seen link.name) || is_other link.kind (kind_in objects link.name)
 
--- the object is not in its grammar, or a link is not met
+-- the object breaks its grammar, or a link is not met
 abbrev pub is_unsound : Objects → (List ℕ → Bool) → Object → Bool
 is_unsound objects seen object = is_none (object_in object.kind object.bytes) || list_any (is_unmet objects seen) (links_in object.kind object.bytes)
 
--- nothing is found, or something unsound
+-- no object is found, or an unsound one
 abbrev pub is_bad_found : Objects → (List ℕ → Bool) → Option Object → Bool
 is_bad_found objects seen (Some object) = is_unsound objects seen object
 is_bad_found objects seen None = true

@@ -1,6 +1,6 @@
-//! Whether the objects that a tenant sees are sound: each valid in the grammar of its kind, each link
-//! seen and of the kind that it requires. Reports the first object that is not, from what is known of
-//! each object once it was read.
+//! Whether the objects that a tenant sees are sound: each is valid in the grammar of its kind, and each link leads to
+//! an object that the tenant sees and that has the kind that the link requires. Reports the first object that is not
+//! sound, from what is known of each object once it was read.
 #![tactic(auto)]
 
 mod links;

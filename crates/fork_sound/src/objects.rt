@@ -11,15 +11,14 @@ use crate::readings::Readings;
 use git_name::Name;
 use std::collections::BTreeSet;
 
-/// The first of these names, ascending, under which no object was read, or one that is unsound if these
-/// are the names that are seen. It reads nothing.
+/// The first of the seen names, ascending, whose object was not read or is unsound among those seen. It reads nothing.
 pub fn first_bad(readings: &Readings, seen: &BTreeSet<Name>) -> Option<Name>
     ensures found { (objects : Objects) → AreReadings readings.now (contains name_cmp seen.now) objects → result ≡ find (is_bad objects (contains name_cmp seen.now)) seen.now.keys }
 {
     first_bad_read(readings, seen)
 }
 
-// The same, by what was read.
+// As `first_bad`, in terms of what was read.
 fn first_bad_read(readings: &Readings, seen: &BTreeSet<Name>) -> Option<Name>
     ensures { result ≡ find (is_bad_read readings.now (contains name_cmp seen.now)) seen.now.keys }
 {
@@ -31,7 +30,7 @@ fn first_bad_read(readings: &Readings, seen: &BTreeSet<Name>) -> Option<Name>
     None
 }
 
-// Whether no object was read under this name, or an unsound one.
+// Whether the object of this name was not read, or is unsound.
 fn is_bad(readings: &Readings, seen: &BTreeSet<Name>, name: Name) -> bool
     ensures { result ≡ is_bad_read readings.now (contains name_cmp seen.now) name }
 {

@@ -8,8 +8,8 @@ use git_object::{Link, Object, links};
 use std::alloc::{AllocError, Global};
 use std::marker::Model;
 
-/// What is known of an object once it was read: its kind, the length of its content, whether it breaks
-/// the grammar of its kind, and its links, which are none if it does.
+/// What is known of an object once it was read: its kind, the length of its content, whether it breaks the grammar of
+/// its kind, and, if it does not, its links.
 #[derive(Drop)]
 pub struct Reading {
     kind: Kind,

@@ -30,7 +30,7 @@ use Rattle.git_header.proofs.PartingLemmas.{taken, header_found, message_found}
 use Rattle.git_header.proofs.FoundLemmas.{ident_again, none_of, chosen_is, chosen, name_again}
 use Rattle.git_header.proofs.TestLemmas.{all_decides, name_decides, ident_decides, header_decides}
 
--- ---- the parts of a right text
+-- ---- the parts of a valid text
 
 parents_pass : (names : List (List ℕ)) → AllByRecursion (λ line. is_parent line ≡ true) (map parent_line names)
 parents_pass [] = tt
@@ -39,11 +39,11 @@ parents_pass (name ∷ names) = (refl, parents_pass names)
 abbrev whole : List ℕ → List (List ℕ) → IdentValue → IdentValue → List HeaderValue → Option (List ℕ) → CommitValue
 whole tree parents author committer headers message = record { tree = tree; parents = parents; author = author; committer = committer; headers = headers; message = message }
 
--- what stands behind the line of the tree
+-- what follows the line of the tree
 abbrev behind_tree : CommitValue → List (List ℕ)
 behind_tree v = ident_line (codes "author ") v.author ∷ ident_line (codes "committer ") v.committer ∷ flat_map header_lines v.headers
 
--- the parts of the other lines, told by those of parents
+-- the parts of a commit, if these are its lines of parents
 abbrev with_parents : CommitValue → List (List ℕ) → CommitValue
 with_parents v parents =
     let others = drop (length parents) (map parent_line v.parents ++ behind_tree v) in
@@ -53,7 +53,7 @@ abbrev with_others : CommitValue → List (List ℕ) → CommitValue
 with_others v others =
     whole (name_or_none (name_in (encode_lower v.tree))) (map (λ line. name_behind 7 line) (map parent_line v.parents)) (ident_in (drop 7 (get_or others 0 []))) (ident_in (drop 10 (get_or others 1 []))) (gather (drop 2 others)).headers v.message
 
--- a right commit is found in its lines
+-- a valid commit is found in its lines
 pub commit_again : (v : CommitValue) → IsCommitValue v → commit_from (commit_lines v) v.message ≡ v
 commit_again v is =
     ap (with_parents v) (taken is_parent (map parent_line v.parents) (behind_tree v) (parents_pass v.parents) refl)

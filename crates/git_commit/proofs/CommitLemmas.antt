@@ -1,4 +1,4 @@
--- The lines of a commit are valid lines, in one way.
+-- The lines of a commit are valid lines, in one way only.
 use Rattle.std.proofs.Common.{◌≡◌, ◌≢◌, inl, inr, ℕ, ◌<◌, List, [], ◌∷◌, ◌++◌, map, length, refl, sym, ap, ◌∙◌, arith, rules, codes, append_assoc}
 use Rattle.std.specs.List.{AllByRecursion, flat_map}
 use Rattle.std.proofs.lemmas.List.Elements.{All-from_recursion, All-append, All-same}
@@ -28,7 +28,7 @@ usual_commit = record { order = refl; unended = refl; zero_byte = refl }
 
 -- ---- the lines are lines
 
--- the demanded words
+-- the required words
 pub data IsWord (word : List ℕ) : Type 0 where
   TreeWord : word ≡ codes "tree " → IsWord word
   ParentWord : word ≡ codes "parent " → IsWord word
@@ -75,7 +75,7 @@ stands_at (Further p) line h = further_stands Commit p line h
 pub sound_commit : IsSound commit_grammar
 sound_commit = record { no_zero = no_zero_at; no_end = no_end_at; some = some_at; stands = stands_at }
 
--- ---- where a demanded value is lacking
+-- ---- a required value is missing
 
 parent_value : (value : List ℕ) → commit_grammar.Right AfterTree (codes "parent " ++ value) → IsNameText value
 parent_value value (inl h) = held_value (codes "parent ") value IsNameText h
@@ -168,7 +168,7 @@ parents_first (n ∷ names) name bytes after are is spelled begins =
     parent_no_end : (m : List ℕ) → IsName m → Lacks 10 (parent_line m)
     parent_no_end m is_name = no_end_at AfterTree (parent_line m) (inl (record { value = encode_lower m; spelling = refl; is = (m, is_name, refl) }))
 
--- what stands behind the first line of parents
+-- what follows the first line of parents
 pub parents_step : (name bytes after : List ℕ) → AreParentLines bytes → IsName name → IsLine (parent_line name) after bytes → (parents_spelled bytes ≡ name ∷ parents_spelled after) × AreParentLines after
 parents_step name bytes after row is line =
     let cut = parents_first (parents_spelled bytes) name bytes after row.each is row.spelling line.parts in
@@ -183,7 +183,7 @@ parents_no_fault (n ∷ names) why bytes are spelled some wrong =
     right_not_broken commit_grammar sound_commit why AfterTree (parent_line n) rest bytes (inl (record { value = encode_lower n; spelling = refl; is = (n, are.0, refl) })) whole
     (parent_broken why bytes (encode_lower n ++ 10 ∷ rest) whole wrong)
 
--- bytes of lines of parents begin with one
+-- bytes of lines of parents begin with such a line
 pub row_no_fault : (why : HeaderFault) (bytes : List ℕ) → AreParentLines bytes → 0 < length bytes → IsNoValue (codes "parent ") IsNameText fault.Name why bytes → ⊥
 row_no_fault why bytes row some wrong = parents_no_fault (parents_spelled bytes) why bytes row.each row.spelling some wrong
 

@@ -1,4 +1,5 @@
--- Worked commits: what the definitions say of small ones, in the form of git-commit-tree(1), and of bytes that are not one.
+-- Examples of commits: what the definitions say of small ones, in the form of git-commit-tree(1), and of bytes that
+-- are not one.
 use Rattle.std.proofs.Common.{◌≡◌, ℕ, List, [], ◌∷◌, ◌++◌, codes, None, Some, refl}
 use Rattle.std.specs.Fmt.{digits}
 use Rattle.hex.specs.Hex.{encode_with, decode_pairs}
@@ -34,7 +35,7 @@ smallest_commit = refl
 pub smallest_is : IsCommit (record { tree = empty; parents = []; author = nobody; committer = nobody; headers = []; message = None }) (tree_line ++ codes "author <> 0 +0000\ncommitter <> 0 +0000\n")
 smallest_is = is_commit_in _ _ smallest_commit
 
--- each part there: two parents, a further header of two lines, and a message that ends in no line feed
+-- every part is present: two parents, a further header of two lines, and a message that ends in no line feed
 pub whole_commit : commit_in (tree_line ++ (parent_line ++ (parent_line ++ codes "author A <a@x> 100 -0130\ncommitter <> 0 +0000\nsig a b\n c\n\nhi"))) ≡ Some (record {
   tree = empty;
   parents = empty ∷ empty ∷ [];
@@ -46,7 +47,7 @@ pub whole_commit : commit_in (tree_line ++ (parent_line ++ (parent_line ++ codes
 unfolding commit_in header_part message_part lines_in gather name_in number_in encode_with decode_pairs digits
 whole_commit = refl
 
--- an empty message is there
+-- an empty message is present
 pub empty_message : commit_in (tree_line ++ codes "author <> 0 +0000\ncommitter <> 0 +0000\n\n") ≡ Some (record { tree = empty; parents = []; author = nobody; committer = nobody; headers = []; message = Some [] })
 unfolding commit_in header_part message_part lines_in gather name_in number_in encode_with decode_pairs digits
 empty_message = refl
@@ -65,7 +66,7 @@ pub no_committer : commit_in (tree_line ++ codes "author <> 0 +0000\n\nhi") ≡ 
 unfolding commit_in header_part message_part lines_in gather name_in number_in encode_with decode_pairs digits
 no_committer = refl
 
--- a parent behind the author is no further header
+-- a parent after the author is no further header
 pub late_parent : commit_in (tree_line ++ (codes "author <> 0 +0000\ncommitter <> 0 +0000\n" ++ parent_line)) ≡ None
 unfolding commit_in header_part message_part lines_in gather name_in number_in encode_with decode_pairs digits
 late_parent = refl

@@ -16,11 +16,11 @@ use Rattle.git_commit.specs.Commit.{CommitValue, IsCommit, parent_line}
 use Rattle.git_commit.specs.Fault.{First, AfterTree}
 use Rattle.git_commit.proofs.CommitLemmas.{sound_commit}
 
--- the lines behind those of the parents
+-- the lines after those of the parents
 abbrev others : CommitValue → List (List ℕ)
 others v = ident_line (codes "author ") v.author ∷ ident_line (codes "committer ") v.committer ∷ flat_map header_lines v.headers
 
--- the first line of a commit has its tree, and behind it stand the other lines
+-- the first line of a commit has its tree, and the other lines follow
 tree_at : (v : CommitValue) (tree after bytes : List ℕ) → IsName tree → IsLine (codes "tree " ++ encode_lower tree) after bytes → IsCommit v bytes
     → (tree ≡ v.tree) × (after ≡ flat_map ended (map parent_line v.parents ++ others v) ++ ending v.message)
 tree_at v tree after bytes is line commit =
@@ -33,7 +33,7 @@ tree_at v tree after bytes is line commit =
 pub tree_first : (v : CommitValue) (tree after bytes : List ℕ) → IsName tree → IsLine (codes "tree " ++ encode_lower tree) after bytes → IsCommit v bytes → tree ≡ v.tree
 tree_first v tree after bytes is line commit = (tree_at v tree after bytes is line commit).0
 
--- lines of parents, as long as there are any, are those of the same names
+-- the lines of parents at the start of a text are those of only one list of names
 same_parents : (ns ms : List (List ℕ)) (r s : List ℕ) → AllByRecursion IsName ns → AllByRecursion IsName ms → flat_map ended (map parent_line ns) ++ r ≡ flat_map ended (map parent_line ms) ++ s
     → ((line : List ℕ) → r ≢ codes "parent " ++ line) → ((line : List ℕ) → s ≢ codes "parent " ++ line) → ns ≡ ms
 same_parents [] [] r s are were same no_r no_s = refl
@@ -50,7 +50,7 @@ same_parents (n ∷ ns) (m ∷ ms) r s are were same no_r no_s =
     no_end : (name : List ℕ) → IsName name → Lacks 10 (parent_line name)
     no_end name is = sound_commit.no_end AfterTree (parent_line name) (inl (record { value = encode_lower name; spelling = refl; is = (name, is, refl) }))
 
--- what stands behind them in a commit is no parent
+-- what follows them in a commit is no parent
 no_parent : (v : CommitValue) (line : List ℕ) → flat_map ended (others v) ++ ending v.message ≢ codes "parent " ++ line
 no_parent v line same = absurd (differ 112 97 (sym (heads 97 112 _ _ same)) (omega arith))
 

@@ -1,4 +1,4 @@
--- Lines that were spelled are read back from their bytes.
+-- Lines are read back from their spelling.
 use Rattle.std.proofs.Common.{codes, ◌≡◌, ◌≢◌, ℕ, ◌<◌, List, [], ◌∷◌, map, drop, refl, sym, ap, subst, ◌∙◌, arith, rules}
 use Rattle.std.specs.List.{AllByRecursion, flat_map}
 use Rattle.std.proofs.lemmas.List.Elements.{All-from_recursion, All-append}
@@ -39,7 +39,7 @@ parents_are : (names : List (List ℕ)) → AllByRecursion IsName names → pare
 unfolding parents_spelled
 parents_are names are = ap (map name_of_line) (lines_of (map parent_line names) (parents_lack names are)) ∙ names_are names are
 
--- bytes of lines of parents hold just these
+-- the bytes of lines of parents contain just these
 pub parents_of : (names : List (List ℕ)) (bytes : List ℕ) → AllByRecursion IsName names → bytes ≡ flat_map ended (map parent_line names) → (parents_spelled bytes ≡ names) × AreParentLines bytes
 parents_of names bytes are is =
     let same : parents_spelled bytes ≡ names = ap parents_spelled is ∙ parents_are names are in

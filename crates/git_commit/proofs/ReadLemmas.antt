@@ -1,4 +1,4 @@
--- A commit is read, and as this commit.
+-- What is a commit is read as this commit.
 use Rattle.std.proofs.Common.{◌≡◌, ℕ, List, Result, Ok, Err}
 use Rattle.std.specs.Prelude.{IfOk, IfErr, IsOkAnd}
 use Rattle.git_header.specs.declared.fault.HeaderFault.{HeaderFault}

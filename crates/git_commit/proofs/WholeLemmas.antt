@@ -1,4 +1,4 @@
--- A commit is read in one way.
+-- A commit is read in one way only.
 use Rattle.std.proofs.Common.{◌≡◌, inr, ℕ, List, [], ◌∷◌, ◌++◌, map, refl, sym, ap, ◌∙◌, arith, codes, append_assoc, Option}
 use Rattle.std.specs.List.{AllByRecursion, flat_map}
 use Rattle.hex.specs.Hex.{encode_lower}
@@ -91,7 +91,7 @@ same_parents (n ∷ ps) (m ∷ qs) a b x y p q e =
 abbrev made : List ℕ → List (List ℕ) → IdentValue → IdentValue → List HeaderValue → Option (List ℕ) → CommitValue
 made tree parents author committer headers message = record { tree = tree; parents = parents; author = author; committer = committer; headers = headers; message = message }
 
--- bytes are one commit at the most
+-- bytes are at most one commit
 pub one_commit : (bytes : List ℕ) (v w : CommitValue) → IsCommit v bytes → IsCommit w bytes → v ≡ w
 one_commit bytes v w one two =
     let lines = same_lines commit_grammar sound_commit First (last_place v) (last_place w) (commit_lines v) (commit_lines w) (ending v.message) (ending w.message) (commit_right v one.right) (commit_right w two.right) (v.message, refl) (w.message, refl) (sym one.spelling ∙ two.spelling) in

@@ -9,7 +9,7 @@ use Rattle.git_header.specs.Value.{ident_line, word_and_name}
 use Rattle.git_name.specs.Text.{ended}
 use Rattle.git_header.specs.Line.{ending}
 
--- a commit, without where it is in memory; no message and an empty one are two values
+-- a commit, without its address in memory; no message and an empty one are two values
 pub record CommitValue : Type 0 where
   pub tree : List ℕ
   pub parents : List (List ℕ)
@@ -18,7 +18,7 @@ pub record CommitValue : Type 0 where
   pub headers : List HeaderValue
   pub message : Option (List ℕ)
 
--- what may stand in a commit
+-- the parts of a valid commit
 pub record IsCommitValue (commit : CommitValue) : Type 0 where
   pub tree : IsName commit.tree
   pub parents : AllByRecursion IsName commit.parents

@@ -15,7 +15,7 @@ use Rattle.git_header.specs.Tests.{is_name, is_ident, is_header}
 abbrev pub is_right_commit : CommitValue → Bool
 is_right_commit commit = is_name commit.tree && list_all is_name commit.parents && is_ident commit.author && is_ident commit.committer && list_all (is_header Commit) commit.headers
 
--- the parts that lines and a message are, if they are those of a commit
+-- the commit that lines and a message make, if they make one
 abbrev pub commit_from : List (List ℕ) → Option (List ℕ) → CommitValue
 commit_from lines message =
     let parents = take_while is_parent (drop 1 lines) in

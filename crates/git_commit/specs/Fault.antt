@@ -54,7 +54,7 @@ form_fault AfterTree line = if is_parent line then fault.Name else fault.Ident
 form_fault AfterAuthor line = fault.Ident
 form_fault (Further place) line = fault.HeaderLine
 
--- what may stand in a commit's header
+-- which lines are allowed in a commit's header
 abbrev pub commit_grammar : Grammar Place HeaderFault
 commit_grammar = record {
   Stands = MayStand;

@@ -29,7 +29,7 @@ impl<'a> Commit<'a> {
     ghost use Rattle.git_header.specs.Left.{headers_left};
     ghost use Rattle.git_header.specs.Lent.{message_of};
 
-    // The parts of a commit, each read in turn.
+    // Reads the parts of a commit in turn.
     fn parts_of(bytes: &'a [u8]) -> Result<Commit<'a>, CommitFault>
         ensures found { IfOk result (λ commit. IsCommit (commit_of commit) bytes.now) }
         ensures exact { IfErr result (λ why. IsCommitFault why bytes.now) }
@@ -52,11 +52,11 @@ impl<'a> Commit<'a> {
         })
     }
 
-    /// The commit that the bytes are. It allocates nothing.
+    /// Reads a commit from its one spelling. It allocates nothing.
     pub fn read(bytes: &'a [u8]) -> Result<Commit<'a>, CommitFault>
         // What is read is a commit of these parts.
         ensures found { IfOk result (λ commit. IsCommit (commit_of commit) bytes.now) }
-        // What is a commit is read.
+        // Every commit is read.
         ensures only { (value : CommitValue) → IsCommit value bytes.now → IsOkAnd result (λ commit. commit_of commit ≡ value) }
         // The value that models compute.
         ensures value { option_map commit_of (result_ok result) ≡ commit_in bytes.now }
@@ -101,7 +101,7 @@ impl<'a> Commit<'a> {
         self.headers
     }
 
-    /// The message. None and an empty one are two commits.
+    /// The message. `None` is no message, which differs from an empty one.
     pub fn message(&self) -> Option<&'a [u8]>
         ensures { message_of result ≡ (commit_of self.now).message }
     {

@@ -6,7 +6,7 @@ use crate::parents::Parents;
 use git_header::take_name;
 use git_name::Name;
 
-/// The names in the lines of the tree and of the parents at the start of the bytes, for callers that
+/// Returns the names in the lines of the tree and the parents at the start of the bytes, for callers that
 /// follow links before they check that the bytes are a commit. It allocates nothing.
 pub fn first_links(bytes: &[u8]) -> Option<(Name, Parents<'_>)>
     // For a commit they are its tree and its parents.

@@ -17,7 +17,7 @@ pub fn one_fault()
     ensures none { (bytes : List ℕ) (v : CommitValue) (f : HeaderFault) → IsCommit v bytes → IsCommitFault f bytes → ⊥ }
 {}
 
-/// A law, with no code to run: the tests that models compute by find exactly the commit that bytes are.
+/// A law, with no code to run: the tests by which models compute find exactly the commit that bytes are.
 pub fn tests_find_the_commit()
     ensures found { (bytes : List ℕ) (commit : CommitValue) → commit_in bytes ≡ Some commit → IsCommit commit bytes }
     ensures only { (bytes : List ℕ) (commit : CommitValue) → IsCommit commit bytes → commit_in bytes ≡ Some commit }

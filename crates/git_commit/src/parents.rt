@@ -41,7 +41,7 @@ impl<'a> Iterator for Parents<'a> {
     }
 }
 
-// The lines of parents at the start, and what follows them.
+// Takes the lines of parents at the start. Returns them and what follows.
 fn take_parents(text: &[u8]) -> Result<(&[u8], &[u8]), CommitFault>
     ensures found { IfOk result (λ p. AreParentLines p.0.now) }
     ensures parts { IfOk result (λ p. text.now ≡ p.0.now ++ p.1.now) }
@@ -62,7 +62,7 @@ fn take_parents(text: &[u8]) -> Result<(&[u8], &[u8]), CommitFault>
 impl<'a> Parents<'a> {
     ghost use Rattle.git_commit.specs.Left.{parents_left};
 
-    // The parents at the start, and what follows them.
+    // Takes the parents at the start. Returns them and what follows.
     pub(crate) fn take(text: &'a [u8]) -> Result<(Parents<'a>, &'a [u8]), CommitFault>
         ensures names { IfOk result (λ p. AllByRecursion IsName (parents_left p.0)) }
         ensures found { IfOk result (λ p. text.now ≡ flat_map ended (map parent_line (parents_left p.0)) ++ p.1.now) }

@@ -22,7 +22,7 @@ fn put_name(out: &mut Vec<u8>, word: &[u8], name: &Name) -> Result<(), AllocErro
     ensures line { OnOk result (out.new.items ≡ out.old.items ++ ended (word_and_name word.now name.now)) }
     ensures name { IsName name.now }
 {
-    // Called for its clause: it is a name.
+    // Called for its clause that the bytes are a name.
     let _bytes = name.as_bytes();
     let mut digits = [0; 64];
     name.write_hex(&mut digits);
@@ -122,7 +122,7 @@ fn put_message(out: &mut Vec<u8>, message: Option<&[u8]>) -> Result<(), AllocErr
     Ok(())
 }
 
-/// The bytes of the commit of these parts, which are valid by their types.
+/// Returns the bytes of the commit of these parts, which are valid by their types.
 pub fn write(
     alloc: Global,
     tree: &Name,

@@ -1,4 +1,4 @@
--- Further headers that are read one after another.
+-- Further headers, read one after another.
 use Rattle.std.proofs.Common.{◌≡◌, ◌≢◌, ◌⊎◌, inl, inr, ℕ, ◌<◌, List, [], ◌∷◌, ◌++◌, map, length, refl, sym, ap, subst, ◌∙◌, arith, rules, codes, append_assoc, Some, None}
 use Rattle.std.specs.List.{AllByRecursion, flat_map}
 use Rattle.std.proofs.lemmas.List.{append-nil}
@@ -30,7 +30,7 @@ all_right byte (x ∷ a) b lacks = all_right byte a b (All-tail (λ x. x ≢ byt
 pub differ : (a b : ℕ) → a ≡ b → b < a → ⊥
 differ a b same below = omega arith
 
--- what begins with a space is no ending
+-- what begins with a space does not end a header
 pub space_goes_on : (text x : List ℕ) → text ≡ 32 ∷ x → IsEnding text → ⊥
 space_goes_on text x is (None, ends) = let no_such : ⊥ = cc in no_such
 space_goes_on text x is (Some m, ends) = differ 32 10 (heads 32 10 x m (sym is ∙ ends)) (omega arith)
@@ -39,7 +39,7 @@ pub continued_right : (kind : Kind) (values : List (List ℕ)) → AllByRecursio
 continued_right kind [] plain = refl
 continued_right kind (v ∷ values) plain = (inr (record { value = v; value_is = plain.0; spelling = refl }), continued_right kind values plain.1)
 
--- no line behind continuation lines
+-- a fault after continuation lines
 pub more_fault : (kind : Kind) (values : List (List ℕ)) (why : HeaderFault) (text rest x : List ℕ) → AllByRecursion IsPlain values → text ≡ flat_map ended (map continuing values) ++ rest → rest ≡ 32 ∷ x → IsNoLine why rest
     → IsFirstFault (header_grammar kind) SomeHeader why text
 more_fault kind values why text rest x plain parts space wrong =
@@ -71,7 +71,7 @@ one_line line after rest parts = parts ∙ sym (lines_then line [] after)
 abbrev pub MoreSoFar : List ℕ → List ℕ → Type 0
 MoreSoFar text rest = (values : List (List ℕ)) × AllByRecursion IsPlain values × (text ≡ flat_map ended (map continuing values) ++ rest)
 
--- one continuation line more
+-- one more continuation line
 pub more_step : (values : List (List ℕ)) (text rest x line after : List ℕ) → AllByRecursion IsPlain values → text ≡ flat_map ended (map continuing values) ++ rest → rest ≡ 32 ∷ x → IsLine line after rest → Lacks 0 line → MoreSoFar text after
 more_step values text rest x line after plain parts space is no_zero =
     let value = line_of_space line after rest x is space in
@@ -108,7 +108,7 @@ no_space_fault kind text line after is plain lacks =
     (λ has. split_none 32 has.word has.rest line lacks has.begins)
     (λ right. split_none 32 right.key right.value line lacks right.spelling) refl))
 
--- nor is one with an empty key
+-- nor is a line with an empty key
 pub no_key_fault : (kind : Kind) (text line after key value : List ℕ) → IsLine line after text → Lacks 0 line → line ≡ key ++ 32 ∷ value → Lacks 32 key → (IsOwnWord kind key → ⊥) → length key ≡ 0 → IsFirstFault (header_grammar kind) NoHeader fault.HeaderLine text
 no_key_fault kind text line after key value is plain parts lacks other none =
     fault_here (header_grammar kind) NoHeader fault.HeaderLine text (Bad line after is (Malformed plain
@@ -119,12 +119,12 @@ no_key_fault kind text line after key value is plain parts lacks other none =
     nothing [] none = refl
     nothing (b ∷ k) none = absurd (omega arith)
 
--- one of the four words stands out of order
+-- one of the four words is out of order
 pub own_fault : (kind : Kind) (text line after key value : List ℕ) → IsLine line after text → Lacks 0 line → line ≡ key ++ 32 ∷ value → IsOwnWord kind key → IsFirstFault (header_grammar kind) NoHeader fault.HeaderOrder text
 own_fault kind text line after key value is plain parts own =
     fault_here (header_grammar kind) NoHeader fault.HeaderOrder text (Bad line after is (Misplaced plain (λ stands. stands (record { word = key; rest = value; own = own; begins = parts })) refl))
 
--- a key, a value and the continuation lines behind them are a further header
+-- a key, a value and the continuation lines after them are a further header
 pub header_of_lines : (kind : Kind) (key value lines : List ℕ) (more : List (List ℕ)) → IsKey kind key → IsPlain value → IsMore lines → more ≡ more_in lines → IsHeader kind (record { key = key; value = value; more = more })
 header_of_lines kind key value lines more key_is value_is lines_are same = record { key = key_is; value = value_is; more = subst (AllByRecursion IsPlain) (sym same) lines_are.each }
 
@@ -136,7 +136,7 @@ key_right kind line after text key value is plain parts lacks other some =
       record { no_end = all_right 10 (32 ∷ []) value (all_right 10 key (32 ∷ value) no_end); no_zero = all_right 0 (32 ∷ []) value (all_right 0 key (32 ∷ value) no_zero) },
     )
 
--- a fault of the continuation lines
+-- a fault in the continuation lines
 pub behind_key_fault : (kind : Kind) (why : HeaderFault) (line after text key value : List ℕ) → IsLine line after text → line ≡ key ++ 32 ∷ value → IsKey kind key × IsPlain value → IsFirstFault (header_grammar kind) SomeHeader why after
     → IsFirstFault (header_grammar kind) NoHeader why text
 behind_key_fault kind why line after text key value is parts right wrong =
@@ -160,7 +160,7 @@ pub headers_right : (kind : Kind) (hs : List HeaderValue) → AllByRecursion (Is
 headers_right kind [] are = refl
 headers_right kind (h ∷ hs) are = right_lines (header_grammar kind) NoHeader SomeHeader SomeHeader (header_lines h) (flat_map header_lines hs) (header_right kind NoHeader h are.0) (more_right kind hs are.1)
 
--- where no continuation line comes, a fault behind nothing is one behind a header
+-- if no continuation line follows, a fault at the start is one after a header too
 fault_as_next : (kind : Kind) (why : HeaderFault) (text : List ℕ) → ((line : List ℕ) → text ≢ 32 ∷ line) → IsFirstFault (header_grammar kind) NoHeader why text → IsFirstFault (header_grammar kind) SomeHeader why text
 fault_as_next kind why text fresh wrong = from wrong.lines wrong.place wrong.rest wrong.right wrong.parts wrong.broken
   where
@@ -182,7 +182,7 @@ fault_as_next kind why text fresh wrong = from wrong.lines wrong.place wrong.res
 abbrev pub IsFresh : List HeaderValue → List ℕ → Type 0
 IsFresh hs rest = hs ≢ [] → (line : List ℕ) → rest ≢ 32 ∷ line
 
--- a fault behind further headers
+-- a fault after further headers
 pub fields_fault : (kind : Kind) (hs : List HeaderValue) (why : HeaderFault) (text rest : List ℕ) → AllByRecursion (IsHeader kind) hs → text ≡ flat_map ended (flat_map header_lines hs) ++ rest → IsFresh hs rest → IsFirstFault (header_grammar kind) NoHeader why rest
     → IsFirstFault (header_grammar kind) NoHeader why text
 fields_fault kind [] why text rest are parts fresh wrong = subst (IsFirstFault (header_grammar kind) NoHeader why) (sym parts) wrong
@@ -195,7 +195,7 @@ FieldsSoFar kind text rest = (hs : List HeaderValue) × AllByRecursion (IsHeader
 headers_push : (hs : List HeaderValue) (h : HeaderValue) → flat_map header_lines (hs ++ h ∷ []) ≡ flat_map header_lines hs ++ header_lines h
 headers_push hs h = flat_map-append header_lines hs (h ∷ []) ∙ ap (λ (t : List (List ℕ)). flat_map header_lines hs ++ t) (append-nil (header_lines h))
 
--- one further header more
+-- one more further header
 pub fields_step : (kind : Kind) (hs : List HeaderValue) (h : HeaderValue) (text rest after : List ℕ) → AllByRecursion (IsHeader kind) hs → text ≡ flat_map ended (flat_map header_lines hs) ++ rest → IsHeader kind h → rest ≡ flat_map ended (header_lines h) ++ after
     → ((line : List ℕ) → after ≢ 32 ∷ line) → FieldsSoFar kind text after
 fields_step kind hs h text rest after are parts is one fresh = (

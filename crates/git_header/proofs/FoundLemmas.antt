@@ -33,7 +33,7 @@ from_outer outer = from_inner outer.0 (sides 62 outer.1)
 sides_at : (byte : ℕ) (a b : List ℕ) → Lacks byte a → sides byte (a ++ byte ∷ b) ≡ (a, b)
 sides_at byte a b lacks = ap (λ (o : Option (List ℕ × List ℕ)). unwrap_or o ([], [])) (split_once-append byte a b lacks)
 
--- a right ident is found in its spelling
+-- a valid ident is found in its spelling
 pub ident_again : (v : IdentValue) → IsIdentValue v → ident_in (spelled_ident v) ≡ v
 ident_again v is =
     let small : v.seconds < 2 ^ 64 = (let s = is.seconds in omega arith) in
@@ -43,7 +43,7 @@ ident_again v is =
     ∙ ap (λ (o : Option ℕ). made v.name v.email (unwrap_or o 0) (sign_of (sign_byte v.sign)) v.zone) (number_in-decimal v.seconds small)
     ∙ ap (λ (s : Sign). made v.name v.email v.seconds s v.zone) (sign_again v.sign)
 
--- so is a name behind a word
+-- and so is a name
 pub name_again : (name : List ℕ) → IsName name → name_or_none (name_in (encode_lower name)) ≡ name
 name_again name is = ap name_or_none (name_in-encode_lower name is)
 

@@ -74,7 +74,7 @@ first_header kind (k ∷ hs) h bytes after are is spelled begins fresh =
     let same = same_header kind k h (flat_map ended (flat_map header_lines hs)) after are.0 is (fresh_row kind hs are.1) fresh (sym whole ∙ begins) in
     (hs, ap (λ (x : HeaderValue). x ∷ hs) same.0, sym same.1, are.1)
 
--- what stands behind the first further header
+-- what follows the first further header
 pub headers_step : (kind : Kind) (h : HeaderValue) (bytes after : List ℕ) → AreHeaders kind bytes → IsHeader kind h → bytes ≡ flat_map ended (header_lines h) ++ after → Fresh after → (headers_in bytes ≡ h ∷ headers_in after) × AreHeaders kind after
 headers_step kind h bytes after row is begins fresh =
     let cut = first_header kind (headers_in bytes) h bytes after row.each is row.spelling begins fresh in
@@ -117,7 +117,7 @@ more_first (v ∷ vs) text line after plain spelled is =
     let parts = split_unique 10 line after (continuing v) (flat_map ended (map continuing vs)) is.no_end (further_no_end Commit SomeHeader (continuing v) (inr (record { value = v; value_is = plain.0; spelling = refl }))) (sym is.parts ∙ whole) in
     (vs, ap (λ (l : List ℕ). drop 1 l ∷ vs) (sym parts.0), parts.1, plain.1)
 
--- what stands behind the first continuation line
+-- what follows the first continuation line
 pub first_more : (text line after : List ℕ) → IsMore text → IsLine line after text → (more_in text ≡ drop 1 line ∷ more_in after) × IsMore after
 first_more text line after row is =
     let cut = more_first (more_in text) text line after row.each row.spelling is in
@@ -157,7 +157,7 @@ values_plain vs all = All-from_recursion (λ v. IsPlain v.now) vs (from vs all)
     from [] all = tt
     from (v ∷ vs) all = (all.0, from vs all.1)
 
--- which default is given says nothing of an element that is there
+-- the default does not matter for an index inside the list
 any_default : {X : Type 0} (xs : List X) (i : ℕ) (d e : X) → i < length xs → get_or xs i d ≡ get_or xs i e
 any_default [] i d e within = absurd (omega arith)
 any_default (x ∷ xs) zero d e within = refl

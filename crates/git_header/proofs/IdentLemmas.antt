@@ -1,4 +1,4 @@
--- An ident is read in one way.
+-- An ident is read in one way only.
 use Rattle.std.proofs.Common.{◌≡◌, ℕ, ◌<◌, ◌^◌, ◌+◌, get_or, List, ◌∷◌, ◌++◌, length, refl, sym, ap, subst, ◌∙◌, arith}
 use Rattle.std.specs.Fmt.{decimal}
 use Rattle.std.proofs.lemmas.Fmt.{decimal_injective}
@@ -20,23 +20,23 @@ same_sign Plus Minus e = absurd (omega arith)
 same_sign Minus Plus e = absurd (omega arith)
 same_sign Minus Minus e = refl
 
--- what stands behind the first space
+-- what follows the first space
 pub time_rest : (text rest : List ℕ) (m : ℕ) (s : Sign) (zone : List ℕ) → text ≡ 32 ∷ rest → text ≡ spelled_time m s zone → rest ≡ decimal m ++ 32 ∷ sign_byte s ∷ zone
 time_rest text rest m s zone whole is = tails 32 32 _ _ (sym whole ∙ is)
 
--- the two sides of the space behind the seconds
+-- the two sides of the space after the seconds
 pub time_parts : (text rest b after : List ℕ) (m : ℕ) (s : Sign) (zone : List ℕ) → m < 2 ^ 63 → text ≡ 32 ∷ rest → rest ≡ b ++ 32 ∷ after → Lacks 32 b → text ≡ spelled_time m s zone → (b ≡ decimal m) × (after ≡ sign_byte s ∷ zone)
 time_parts text rest b after m s zone small whole cut lacks is =
     split_unique 32 b after (decimal m) (sign_byte s ∷ zone) lacks (decimal_without 32 (omega arith) m (small_of m small)) (sym cut ∙ time_rest text rest m s zone whole is)
 
--- and the sign is the first byte behind it
+-- and the sign is the first byte after it
 pub sign_first : (text rest b after : List ℕ) (m : ℕ) (s : Sign) (zone : List ℕ) → m < 2 ^ 63 → text ≡ 32 ∷ rest → rest ≡ b ++ 32 ∷ after → Lacks 32 b → text ≡ spelled_time m s zone → (length after ≡ length zone + 1) × (get_or after 0 0 ≡ sign_byte s)
 sign_first text rest b after m s zone small whole cut lacks is =
     let parts = time_parts text rest b after m s zone small whole cut lacks is in
     let len : length after ≡ length (sign_byte s ∷ zone) = ap length parts.1 in
     (omega arith, ap (λ (t : List ℕ). get_or t 0 0) parts.1)
 
--- a time is spelled in one way
+-- a time is spelled in one way only
 pub time_unique : (n m : ℕ) (s t : Sign) (y z : List ℕ) → n < 2 ^ 64 → m < 2 ^ 63 → spelled_time n s y ≡ spelled_time m t z → (n ≡ m) × (s ≡ t) × (y ≡ z)
 time_unique n m s t y z small_n small_m e =
     let parts = time_parts (spelled_time n s y) (decimal n ++ 32 ∷ sign_byte s ∷ y) (decimal n) (sign_byte s ∷ y) m t z small_m refl refl (decimal_without 32 (omega arith) n small_n) e in
@@ -62,7 +62,7 @@ parts_are text a b rest after y n s v whole first whole_2 first_2 time small is 
     let three = time_unique n v.seconds s v.sign y v.zone small is.right.seconds (sym time ∙ two.1) in
     same_parts (sym one.0) (sym two.0) (sym three.0) (sym three.1) (sym three.2)
 
--- a text is one ident at the most
+-- a text is at most one ident
 pub ident_unique : (text : List ℕ) (v w : IdentValue) → IsIdent v text → IsIdent w text → w ≡ v
 ident_unique text v w one two =
     parts_are text v.name v.email _ _ v.zone v.seconds v.sign w one.spelling one.right.name.no_open refl one.right.email.no_close refl (small_of v.seconds one.right.seconds) two

@@ -1,4 +1,4 @@
--- The first faulty line is one line, and its fault is one fault.
+-- There is only one first faulty line, and it has only one fault.
 use Rattle.std.proofs.Common.{◌≡◌, ◌≢◌, ℕ, List, [], ◌∷◌, ◌++◌, refl, sym, ap, subst, ◌∙◌, append_assoc, Option, Some, None}
 use Rattle.std.specs.List.{flat_map}
 use Rattle.std.proofs.lemmas.List.Concat.{flat_map-append}
@@ -10,7 +10,7 @@ use Rattle.git_header.specs.Line.{IsEnding, IsLine, IsNoLine, ending}
 use Rattle.git_header.specs.Judging.{Grammar, AreRightLines, IsBadLine, HoldsZero, Misplaced, Malformed, IsBroken, Early, Unended, Bad, IsFirstFault}
 use Rattle.git_header.proofs.Splits.{split_unique, split_none, heads}
 
--- a line of a right form is a line, and stands where it may
+-- a line of a valid form is a line, and is allowed at its place
 pub record IsSound {P F : Type 0} (g : Grammar P F) : Type 0 where
   pub no_zero : (p : P) (line : List ℕ) → g.Right p line → Lacks 0 line
   pub no_end : (p : P) (line : List ℕ) → g.Right p line → Lacks 10 line
@@ -34,7 +34,7 @@ bad_unique g f h p line (Malformed plain s r e) (HoldsZero y d) = absurd (y plai
 bad_unique g f h p line (Malformed plain s r e) (Misplaced plain_2 t d) = absurd (t s)
 bad_unique g f h p line (Malformed plain s r e) (Malformed plain_2 t q d) = e ∙ sym d
 
--- an ending holds no line, and isn't cut off
+-- an ending contains no line, and is not cut off
 pub no_line_ends : (line after rest : List ℕ) → IsLine line after rest → IsEnding rest → ⊥
 no_line_ends line after rest is (m, ends) = from line m is.some is.no_end (sym is.parts ∙ ends)
   where
@@ -73,7 +73,7 @@ right_not_bad g sound f p line right (HoldsZero z e) = z (sound.no_zero p line r
 right_not_bad g sound f p line right (Misplaced plain s e) = s (sound.stands p line right)
 right_not_bad g sound f p line right (Malformed plain s r e) = r right
 
--- what begins with a right line breaks no point
+-- what begins with a valid line breaks no rule
 pub right_not_broken : {P F : Type 0} (g : Grammar P F) → IsSound g → (f : F) (p : P) (line after rest : List ℕ) → g.Right p line → rest ≡ line ++ 10 ∷ after → IsBroken g f p rest → ⊥
 right_not_broken g sound f p line after rest right parts (Early ends n e) = no_line_ends line after rest (right_is_line g sound p line after rest right parts) ends
 right_not_broken g sound f p line after rest right parts (Unended some lacks e) = no_cut_line line after rest (right_is_line g sound p line after rest right parts) lacks
@@ -91,7 +91,7 @@ agree g sound f h p q r (l ∷ ls) (m ∷ ms) x y right right_2 same broken brok
     let parts = split_unique 10 l (flat_map ended ls ++ x) m (flat_map ended ms ++ y) (sound.no_end p l right.0) (sound.no_end p m right_2.0) (sym (lines_then l ls x) ∙ same ∙ lines_then m ms y) in
     agree g sound f h (g.next p l) q r ls ms x y right.1 (subst (λ t. AreRightLines g (g.next p t) ms r) (sym parts.0) right_2.1) parts.1 broken broken_2
 
--- a text has one first fault at the most
+-- a text has at most one first fault
 pub one_fault : {P F : Type 0} (g : Grammar P F) → IsSound g → (p : P) (f h : F) (text : List ℕ) → IsFirstFault g p f text → IsFirstFault g p h text → f ≡ h
 one_fault g sound p f h text one two = agree g sound f h p one.place two.place one.lines two.lines one.rest two.rest one.right two.right (sym one.parts ∙ two.parts) one.broken two.broken
 
@@ -111,7 +111,7 @@ whole g sound f p q r (l ∷ ls) (m ∷ ms) x y right right_2 same may ends brok
     let parts = split_unique 10 l (flat_map ended ls ++ x) m (flat_map ended ms ++ y) (sound.no_end p l right.0) (sound.no_end p m right_2.0) (sym (lines_then l ls x) ∙ same ∙ lines_then m ms y) in
     whole g sound f (g.next p l) q r ls ms x y right.1 (subst (λ t. AreRightLines g (g.next p t) ms r) (sym parts.0) right_2.1) parts.1 may ends broken
 
--- a text of right lines and a right end has no fault
+-- a text of valid lines and a valid end has no fault
 pub no_fault : {P F : Type 0} (g : Grammar P F) → IsSound g → (p q : P) (f : F) (ls : List (List ℕ)) (x text : List ℕ) → AreRightLines g p ls q → g.MayEnd q → IsEnding x → text ≡ flat_map ended ls ++ x → IsFirstFault g p f text → ⊥
 no_fault g sound p q f ls x text right may ends parts wrong =
     whole g sound f p q wrong.place ls wrong.lines x wrong.rest right wrong.right (sym parts ∙ wrong.parts) may ends wrong.broken
@@ -120,7 +120,7 @@ right_append : {P F : Type 0} (g : Grammar P F) (p q r : P) (ls ms : List (List 
 right_append g p q r [] ms one two = subst (λ t. AreRightLines g t ms r) (sym one) two
 right_append g p q r (l ∷ ls) ms one two = (one.0, right_append g (g.next p l) q r ls ms one.1 two)
 
--- right lines before a fault
+-- valid lines before a fault
 pub fault_behind : {P F : Type 0} (g : Grammar P F) (p q : P) (f : F) (ls : List (List ℕ)) (rest text : List ℕ) → AreRightLines g p ls q → text ≡ flat_map ended ls ++ rest → IsFirstFault g q f rest → IsFirstFault g p f text
 fault_behind g p q f ls rest text right parts wrong = record {
   lines = ls ++ wrong.lines;
@@ -135,7 +135,7 @@ fault_behind g p q f ls rest text right parts wrong = record {
 pub right_lines : {P F : Type 0} (g : Grammar P F) (p q r : P) (ls ms : List (List ℕ)) → AreRightLines g p ls q → AreRightLines g q ms r → AreRightLines g p (ls ++ ms) r
 right_lines g p q r ls ms one two = right_append g p q r ls ms one two
 
--- the next line is the first one
+-- a fault of the next line is the first one
 pub fault_here : {P F : Type 0} (g : Grammar P F) (p : P) (f : F) (text : List ℕ) → IsBroken g f p text → IsFirstFault g p f text
 fault_here g p f text broken = record { lines = []; place = p; rest = text; right = refl; parts = refl; broken = broken }
 
@@ -149,7 +149,7 @@ pub record IsUsual {P F : Type 0} (named : HeaderFault → F) (g : Grammar P F) 
   pub unended : named fault.HeaderLine ≡ g.unended
   pub zero_byte : named fault.ZeroByte ≡ g.zero_byte
 
--- where no line could be taken
+-- if no line could be taken
 pub no_line_broken : {P F : Type 0} (named : HeaderFault → F) (g : Grammar P F) → IsUsual named g → (why : HeaderFault) (p : P) (text : List ℕ) → IsNoLine why text → (IsEnding text → g.MayEnd p → ⊥) → IsBroken g (named why) p text
 no_line_broken named g usual fault.HeaderOrder p text wrong early = Early wrong (early wrong) usual.order
 no_line_broken named g usual fault.Name p text wrong early = absurd wrong
@@ -196,7 +196,7 @@ fault_within named into g h within p f text wrong = record {
   broken = broken_within named into g h within f wrong.place wrong.rest wrong.broken;
 }
 
--- right lines with right ends are told apart by nothing but themselves
+-- a text is valid lines and an end in one way only
 pub same_lines : {P F : Type 0} (g : Grammar P F) → IsSound g → (p q r : P) (ls ms : List (List ℕ)) (x y : List ℕ) → AreRightLines g p ls q → AreRightLines g p ms r → IsEnding x → IsEnding y → flat_map ended ls ++ x ≡ flat_map ended ms ++ y → (ls ≡ ms) × (x ≡ y)
 same_lines g sound p q r [] [] x y one two ends ends_2 same = (refl, same)
 same_lines g sound p q r [] (m ∷ ms) x y one two ends ends_2 same =

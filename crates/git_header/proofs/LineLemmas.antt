@@ -11,7 +11,7 @@ byte_is b is = grind (arith, nat_tests)
 byte_same : (b : ℕ) → b ≡ 10 → nat_eq b 10 ≡ true
 byte_same b is = grind (arith, nat_tests)
 
--- bytes that end a header begin with a line feed, or are none
+-- bytes that end a header are empty or begin with a line feed
 pub first_ends : (text : List ℕ) → 0 < length text → (nat_eq (get_or text 0 0) 10 ≡ true) ↔ IsEnding text
 first_ends [] some = absurd (omega arith)
 first_ends (b ∷ text) some = (λ is. (Some text, ap (λ h. h ∷ text) (byte_is b is)), λ ends. byte_same b (from ends.0 ends.1))
@@ -20,7 +20,7 @@ first_ends (b ∷ text) some = (λ is. (Some text, ap (λ h. h ∷ text) (byte_i
     from None is = absurd (cc)
     from (Some m) is = heads b 10 text m is
 
--- where the header goes on, its first line isn't empty
+-- if the header goes on, its first line is not empty
 pub goes_on : (text line after : List ℕ) → text ≡ line ++ 10 ∷ after → (IsEnding text → ⊥) → line ≢ []
 goes_on text line after parts on none = on (Some after, parts ∙ ap (λ (l : List ℕ). l ++ 10 ∷ after) none)
 

@@ -1,4 +1,4 @@
--- A header that is read line by line.
+-- Reading a header line by line.
 use Rattle.std.proofs.Common.{◌≡◌, ℕ, List, ◌++◌, refl, sym, ap, Option, Some, None}
 use Rattle.std.specs.List.{flat_map}
 use Rattle.git_name.specs.Text.{ended}
@@ -11,7 +11,7 @@ use Rattle.git_header.proofs.IdentLemmas.{ident_unique}
 use Rattle.git_header.proofs.JudgingLemmas.{right_lines, fault_behind}
 use Rattle.git_header.proofs.FieldLemmas.{lines_push}
 
--- what was read are right lines, which lead to a place
+-- what was read is valid lines, which lead to a place
 pub record IsRead {P F : Type 0} (g : Grammar P F) (start : P) (bytes : List ℕ) (lines : List (List ℕ)) (place : P) (rest : List ℕ) : Type 0 where
   pub right : AreRightLines g start lines place
   pub parts : bytes ≡ flat_map ended lines ++ rest

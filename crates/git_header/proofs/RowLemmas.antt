@@ -1,4 +1,4 @@
--- Lines that were spelled are read back from their bytes.
+-- Lines are read back from their spelling.
 use Rattle.std.proofs.Common.{suc, ◌-◌, take, ◌≡◌, ◌≢◌, ℕ, ◌<◌, ◌≤◌, ◌/◌, ◌%◌, cond, eqb, All, List, [], ◌∷◌, ◌++◌, map, drop, length, get_or, refl, sym, ap, subst, ◌∙◌, arith, rules, length-append}
 use Rattle.std.specs.List.{AllByRecursion, flat_map}
 use Rattle.std.proofs.lemmas.Bool.Decides.{nat_tests}
@@ -29,7 +29,7 @@ pub no_lines : lines_in [] ≡ []
 unfolding lines_in
 no_lines = refl
 
--- lines that were put one after another
+-- lines put one after another
 pub lines_of : (lines : List (List ℕ)) → AllByRecursion (Lacks 10) lines → lines_in (flat_map ended lines) ≡ lines
 lines_of [] lack = no_lines
 lines_of (line ∷ lines) lack =
@@ -48,7 +48,7 @@ more_are : (values : List (List ℕ)) → AllByRecursion IsPlain values → more
 unfolding more_in
 more_are values plain = ap (map (λ line. drop 1 line)) (lines_of (map continuing values) (continued_lacks values plain)) ∙ dropped values
 
--- bytes of right continuation lines hold just these
+-- the bytes of valid continuation lines contain just these
 pub more_of_values : (values : List (List ℕ)) (bytes : List ℕ) → AllByRecursion IsPlain values → bytes ≡ flat_map ended (map continuing values) → (more_in bytes ≡ values) × IsMore bytes
 more_of_values values bytes plain is =
     let are : more_in bytes ≡ values = ap more_in is ∙ more_are values plain in
@@ -114,13 +114,13 @@ unfolding headers_in
 headers_are kind hs are =
     ap (λ (ls : List (List ℕ)). (gather ls).headers) (lines_of (flat_map header_lines hs) (headers_lack kind hs are)) ∙ ap (λ (g : Gathered). g.headers) (gather_headers kind hs are)
 
--- bytes of right further headers hold just these
+-- the bytes of valid further headers contain just these
 pub headers_of : (kind : Kind) (hs : List HeaderValue) (bytes : List ℕ) → AllByRecursion (IsHeader kind) hs → bytes ≡ flat_map ended (flat_map header_lines hs) → (headers_in bytes ≡ hs) × AreHeaders kind bytes
 headers_of kind hs bytes are is =
     let same : headers_in bytes ≡ hs = ap headers_in is ∙ headers_are kind hs are in
     (same, record { each = subst (AllByRecursion (IsHeader kind)) (sym same) are; spelling = is ∙ ap (λ (h : List HeaderValue). flat_map ended (flat_map header_lines h)) (sym same) })
 
--- the same lines are the same headers
+-- equal lines are equal headers
 pub headers_unique : (kind : Kind) (hs ks : List HeaderValue) → AllByRecursion (IsHeader kind) hs → AllByRecursion (IsHeader kind) ks → flat_map header_lines hs ≡ flat_map header_lines ks → hs ≡ ks
 headers_unique kind hs ks are are_2 same =
     ap (λ (g : Gathered). g.headers) (sym (gather_headers kind hs are) ∙ ap gather same ∙ gather_headers kind ks are_2)
@@ -142,11 +142,11 @@ high_not : (byte : ℕ) → byte < 48 → (bytes : List ℕ) → AllByRecursion 
 high_not byte low [] high = tt
 high_not byte low (b ∷ bytes) high = (λ (e : b ≡ byte). absurd (let h = high.0 in omega arith), high_not byte low bytes high.1)
 
--- no byte below the digits stands in the digits of a name
+-- no byte below the digits occurs in the digits of a name
 pub hex_lacks : (byte : ℕ) → byte < 48 → (name : List ℕ) → IsName name → Lacks byte (encode_lower name)
 hex_lacks byte low name is = All-from_recursion (λ b. b ≢ byte) (encode_lower name) (high_not byte low (encode_lower name) (hex_high name is.bytes))
 
--- what stands before the rest
+-- what precedes the rest
 pub front_of : (text front rest : List ℕ) → text ≡ front ++ rest → take (length text - length rest) text ≡ front
 front_of text front rest parts =
     let len : length front ≡ length text - length rest = omega (arith, ap length parts, length-append front rest) in

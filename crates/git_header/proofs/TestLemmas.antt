@@ -1,4 +1,4 @@
--- The tests of what may stand in a commit or a tag decide what the relations say.
+-- The tests of the parts of a commit or a tag decide what the relations say.
 use Rattle.std.proofs.Common.{◌≡◌, ◌≢◌, ◌≤◌, ◌⊎◌, ℕ, ◌<◌, ◌-◌, ◌^◌, ◌==◌, ◌||◌, Bool, true, false, not, nat_lt, nat_le, List, [], ◌∷◌, length, codes, slice_index, refl, arith, inl, inr}
 use Rattle.std.specs.Bool.{Decides}
 use Rattle.std.specs.List.{AllByRecursion, list_all}
@@ -55,7 +55,7 @@ text_decides bytes =
       λ is. parts.1 ((is.no_open, is.no_close), record { no_end = is.no_end; no_zero = is.no_zero }),
     )
 
--- one of two tests, where the second counts only where the first fails
+-- one of two tests, if the second counts only when the first fails
 either_decides : {P Q : Type 0} (a b : Bool) → Decides a P → Decides b Q → Decides (a || b) ((P → ⊥) → Q)
 either_decides true b one two = (λ _ not. absurd (not (one.0 refl)), λ _. refl)
 either_decides false b one two = (λ test _. two.0 test, λ h. two.1 (h (λ p. let e = one.1 p in let no_such : ⊥ = cc in no_such)))

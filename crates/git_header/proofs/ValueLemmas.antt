@@ -1,4 +1,4 @@
--- Names and idents after the word of a line, and where they are missing.
+-- Names and idents after the word of a line, and lines without them.
 use Rattle.std.proofs.Common.{◌≡◌, ◌≢◌, inl, inr, ℕ, ◌<◌, ◌≤◌, ◌^◌, All, List, [], ◌∷◌, ◌++◌, refl, sym, ap, subst, ◌∙◌, arith}
 use Rattle.std.specs.Fmt.{decimal}
 use Rattle.std.proofs.lemmas.List.Elements.{All-cons, All-append, All-same, All-weaker, All-head, All-tail}
@@ -47,7 +47,7 @@ ident_value_no_zero value (v, is) = All-same (λ b. b ≢ 0) _ _ is.spelling (id
 pub ident_value_no_end : (value : List ℕ) → IsIdentLine value → Lacks 10 value
 ident_value_no_end value (v, is) = All-same (λ b. b ≢ 10) _ _ is.spelling (ident_lacks 10 (omega arith) v is.right is.right.name.no_end is.right.email.no_end)
 
--- digits write one name
+-- equal digits write equal names
 pub name_same : (a b : List ℕ) → IsName a → IsName b → encode_lower a ≡ encode_lower b → a ≡ b
 name_same a b is_a is_b same = ap name_or_none (sym (name_in-encode_lower a is_a) ∙ ap name_in same ∙ name_in-encode_lower b is_b)
 

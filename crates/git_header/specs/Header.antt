@@ -1,4 +1,4 @@
--- Further headers: a key, a value, and any number of continuation lines (own: a tag has them as a commit has).
+-- Further headers: a key, a value, and any number of continuation lines (own: tags have them as commits do).
 use Rattle.std.specs.Prelude.{◌≡◌, ◌≢◌, ◌⊎◌, ℕ, List, [], ◌∷◌, ◌++◌, ◌==◌, map, codes, if◌then◌else◌}
 use Rattle.std.specs.List.{AllByRecursion}
 use Rattle.git_name.specs.declared.kind.Kind.{Kind}
@@ -19,11 +19,11 @@ pub record IsPlain (bytes : List ℕ) : Type 0 where
   pub no_end : Lacks 10 bytes
   pub no_zero : Lacks 0 bytes
 
--- the kind of object that a const parameter stands for: 1 a tag, otherwise a commit
+-- the kind of object that a const parameter means: 1 a tag, any other a commit
 abbrev pub kind_at : ℕ → Kind
 kind_at code = if code == 1 then Tag else Commit
 
--- the words that begin the required lines, so no further header has them as its key
+-- the words that begin the required lines; no further header has one as its key
 abbrev pub IsOwnWord : Kind → List ℕ → Type 0
 IsOwnWord Commit key = (key ≡ codes "tree") ⊎ ((key ≡ codes "parent") ⊎ ((key ≡ codes "author") ⊎ (key ≡ codes "committer")))
 IsOwnWord Tag key = (key ≡ codes "object") ⊎ ((key ≡ codes "type") ⊎ ((key ≡ codes "tag") ⊎ (key ≡ codes "tagger")))
@@ -65,7 +65,7 @@ pub record IsContinuation (line : List ℕ) : Type 0 where
   pub value_is : IsPlain value
   pub spelling : line ≡ continuing value
 
--- the line begins with one of the words and a space
+-- the line begins with one of these words and a space
 pub record HasOwnWord (kind : Kind) (line : List ℕ) : Type 0 where
   pub word : List ℕ
   pub rest : List ℕ

@@ -19,7 +19,7 @@ pub record IsIdentText (bytes : List ℕ) : Type 0 where
   pub no_end : Lacks 10 bytes
   pub no_zero : Lacks 0 bytes
 
--- either none, or the last byte is a space
+-- empty, or the last byte is a space
 abbrev pub EndsInSpace : List ℕ → Type 0
 EndsInSpace bytes = bytes ≢ [] → slice_index bytes (length bytes - 1) ≡ 32
 
@@ -29,7 +29,7 @@ pub record IsZone (zone : List ℕ) : Type 0 where
   pub low : All (λ b. 48 ≤ b) zone
   pub high : All (λ b. b ≤ 57) zone
 
--- what may stand in an ident
+-- the parts of a valid ident
 pub record IsIdentValue (ident : IdentValue) : Type 0 where
   pub name : IsIdentText ident.name
   pub spaced : EndsInSpace ident.name

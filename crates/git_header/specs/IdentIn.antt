@@ -7,7 +7,7 @@ use Rattle.git_header.specs.declared.ident.Sign.{Sign}
 use Rattle.git_header.specs.declared.ident.Sign.TheVariants.{Plus, Minus}
 use Rattle.git_header.specs.Ident.{IdentValue}
 
--- what precedes the first such byte, and what follows it
+-- what precedes the first occurrence of the byte, and what follows it
 abbrev pub sides : ℕ → List ℕ → List ℕ × List ℕ
 sides byte text = unwrap_or (split_once byte text) ([], [])
 

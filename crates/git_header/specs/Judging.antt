@@ -4,7 +4,7 @@ use Rattle.std.specs.List.{flat_map}
 use Rattle.git_name.specs.Text.{Lacks, ended}
 use Rattle.git_header.specs.Line.{IsEnding, IsLine}
 
--- what may stand at each place P of a header, and the faults F of what may not
+-- which lines are allowed at each place P of a header, and the faults F of the others
 pub record Grammar (P F : Type 0) : Type 1 where
   pub Stands : P → List ℕ → Type 0
   pub Right : P → List ℕ → Type 0
@@ -20,13 +20,13 @@ abbrev pub AreRightLines : {P F : Type 0} → Grammar P F → P → List (List �
 AreRightLines g place [] last = place ≡ last
 AreRightLines g place (line ∷ lines) last = g.Right place line × AreRightLines g (g.next place line) lines last
 
--- which rule a complete line breaks: a zero byte, a word that may not stand there, a wrong form
+-- the rule that a complete line breaks: a zero byte, a word not allowed at its place, or a wrong form
 pub data IsBadLine {P F : Type 0} (g : Grammar P F) (why : F) (place : P) (line : List ℕ) : Type 0 where
   HoldsZero : (Lacks 0 line → ⊥) → why ≡ g.zero_byte → IsBadLine g why place line
   Misplaced : Lacks 0 line → (g.Stands place line → ⊥) → why ≡ g.order → IsBadLine g why place line
   Malformed : Lacks 0 line → g.Stands place line → (g.Right place line → ⊥) → why ≡ g.form place line → IsBadLine g why place line
 
--- which rule the next line breaks, or the header's end
+-- the rule that the next line breaks, or the end of the header
 pub data IsBroken {P F : Type 0} (g : Grammar P F) (why : F) (place : P) (rest : List ℕ) : Type 0 where
   Early : IsEnding rest → (g.MayEnd place → ⊥) → why ≡ g.order → IsBroken g why place rest
   Unended : rest ≢ [] → Lacks 10 rest → why ≡ g.unended → IsBroken g why place rest

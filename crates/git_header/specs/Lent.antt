@@ -1,4 +1,4 @@
--- Borrowed bytes as a value, without where they are in memory.
+-- Borrowed bytes as a value, without their address.
 use Rattle.std.specs.Prelude.{ℕ, List, Option, Some, None}
 use Rattle.std.specs.Borrow.{Bor}
 

@@ -19,7 +19,7 @@ pub record IsLine (line after text : List ℕ) : Type 0 where
   pub no_end : Lacks 10 line
   pub some : line ≢ []
 
--- why the text begins with no valid line, whatever may stand there
+-- why the text begins with no valid line, whichever lines are allowed
 abbrev pub IsNoLine : HeaderFault → List ℕ → Type 0
 IsNoLine fault.HeaderOrder text = IsEnding text
 IsNoLine fault.HeaderLine text = (text ≢ []) × Lacks 10 text

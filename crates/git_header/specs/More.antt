@@ -13,6 +13,6 @@ abbrev pub text_in : More → Option (List ℕ)
 text_in (Text text) = Some text.now
 text_in (Values values) = None
 
--- if they are, the bytes are valid continuation lines
+-- if the values are in lines, the bytes are valid continuation lines
 abbrev pub IsMoreOf : More → Type 0
 IsMoreOf more = (text : List ℕ) → text_in more ≡ Some text → IsMore text

@@ -5,7 +5,7 @@ use Rattle.git_name.specs.Name.{name_in}
 use Rattle.git_name.specs.Text.{ended}
 use Rattle.git_header.specs.Row.{lines_in, name_or_none}
 
--- whether the line holds a byte
+-- whether the line has a byte
 abbrev pub holds_some : List ℕ → Bool
 holds_some [] = false
 holds_some (byte ∷ line) = true

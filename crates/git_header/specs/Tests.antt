@@ -1,4 +1,4 @@
--- The tests of what may stand in a commit or a tag, for models that compute (own). They say what the relations say.
+-- Tests of the parts of a commit or a tag, for models that compute (own). They say what the relations say.
 use Rattle.std.specs.Prelude.{ℕ, ◌==◌, ◌-◌, ◌^◌, ◌&&◌, ◌||◌, nat_lt, nat_le, not, Bool, false, List, [], length, slice_index, codes}
 use Rattle.std.specs.List.{list_all}
 use Rattle.std.specs.Str.{bytes_eq}
@@ -7,7 +7,7 @@ use Rattle.git_name.specs.declared.kind.Kind.TheVariants.{Blob, Tree, Commit, Ta
 use Rattle.git_header.specs.Ident.{IdentValue}
 use Rattle.git_header.specs.Header.{HeaderValue}
 
--- no byte is this one
+-- the byte does not occur
 abbrev pub lacks : ℕ → List ℕ → Bool
 lacks byte bytes = list_all (λ b. not (b == byte)) bytes
 

@@ -29,7 +29,7 @@ pub record IsWrong (word : List ℕ) (IsValue : List ℕ → Type 0) (text : Lis
   pub plain : Lacks 0 (word ++ value)
   pub wrong : IsValue value → ⊥
 
--- why the text begins with no line of the word and a valid value
+-- why the text does not begin with a line of the word and a valid value
 abbrev pub IsNoValue : List ℕ → (List ℕ → Type 0) → HeaderFault → HeaderFault → List ℕ → Type 0
 IsNoValue word IsValue form why text = IsNoWord word why text ⊎ ((why ≡ form) × IsWrong word IsValue text)
 

@@ -1,4 +1,4 @@
--- The value of a borrowed ident, without where it is in memory.
+-- The value of a borrowed ident, without its address.
 use Rattle.git_header.specs.declared.ident.Ident.{Ident}
 use Rattle.git_header.specs.Ident.{IdentValue}
 

@@ -10,7 +10,7 @@ use crate::fault::HeaderFault;
 use crate::line::{after_word, take_line};
 use crate::more::More;
 
-// The continuation lines at the start, and what follows them.
+// Takes the continuation lines at the start. Returns them and what follows.
 pub(crate) fn take_more(text: &[u8]) -> Result<(&[u8], &[u8]), HeaderFault>
     ensures found { IfOk result (λ p. IsMore p.0.now) }
     ensures parts { IfOk result (λ p. text.now ≡ p.0.now ++ p.1.now) }
@@ -51,7 +51,7 @@ pub struct Continuation<'a> {
 impl<'a> Continuation<'a> {
     ghost use Rattle.git_header.specs.Left.{more_left};
 
-    // Those of the lines that the bytes are.
+    // The values of the continuation lines in the bytes.
     pub(crate) fn of_lines(text: &'a [u8]) -> Continuation<'a>
         requires { IsMore text.now }
         ensures { more_left result ≡ more_in text.now }
@@ -61,7 +61,7 @@ impl<'a> Continuation<'a> {
         }
     }
 
-    // Those that are given one by one.
+    // The values, given one by one.
     pub(crate) fn of_values(values: &'a [&'a [u8]]) -> Continuation<'a>
         ensures { more_left result ≡ map (λ value. value.now) values.now }
     {

@@ -1,21 +1,21 @@
 use thiserror::Error;
 
-/// What is wrong with a line of a header, or with a header that ends too early.
+/// What is wrong with a header: the fault of a line, or an end that comes too early.
 #[derive(Clone, Copy, Debug, PartialEq, Eq, Error)]
 pub enum HeaderFault {
-    /// A line that may not stand there, or headers that end too early.
-    #[error("a header line stands out of order, or is missing")]
+    /// A line that is not allowed at its place, or a header that ends too early.
+    #[error("a header line is out of order or missing")]
     HeaderOrder,
-    /// There is no object name where one is required.
-    #[error("a header line holds no object name")]
+    /// The line requires an object name, but has none.
+    #[error("a header line has no object name")]
     Name,
-    /// There is no ident where one is required.
-    #[error("a header line holds no ident")]
+    /// The line requires an ident, but has none.
+    #[error("a header line has no ident")]
     Ident,
     /// A line without a line feed, or a further header of a wrong form.
-    #[error("a header line has a wrong form")]
+    #[error("a header line is malformed")]
     HeaderLine,
     /// A zero byte in a header line.
-    #[error("a header line holds a zero byte")]
+    #[error("a header line contains a NUL byte")]
     ZeroByte,
 }

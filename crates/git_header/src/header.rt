@@ -14,8 +14,8 @@ use crate::kind::is_own_word;
 use crate::line::{cut, take_line};
 use memchr::{memchr, memchr2};
 
-/// A further header of a commit or a tag, depending on the parameter: its key, its value and the values
-/// of its continuation lines. No value of this type has another form.
+/// A further header of a commit or a tag, as the parameter says: its key, its value and the values of its
+/// continuation lines. A value of this type is always valid.
 #[derive(Clone, Copy, Debug)]
 pub struct Header<'a, const KIND: u8> {
     key: &'a [u8],
@@ -31,7 +31,7 @@ fn is_plain(bytes: &[u8]) -> bool
     memchr2(b'\n', 0, bytes).is_none()
 }
 
-// The same for each of the values, one by one.
+// Whether each of the values is plain.
 fn all_plain(values: &[&[u8]]) -> bool
     ensures { IsTrue result ↔ All (λ value. IsPlain value.now) values.now }
 {
@@ -43,7 +43,7 @@ fn all_plain(values: &[&[u8]]) -> bool
     true
 }
 
-// The same for each of the values.
+// Whether each of the values is plain, by recursion over the list.
 fn are_plain(values: &[&[u8]]) -> bool
     ensures { IsTrue result ↔ AllByRecursion IsPlain (map (λ value. value.now) values.now) }
 {
@@ -63,7 +63,7 @@ fn is_key<const KIND: u8>(key: &[u8]) -> bool
 impl<'a, const KIND: u8> Header<'a, KIND> {
     ghost use Rattle.git_header.specs.Left.{header_of, more_left};
 
-    /// The further header of these parts. Each of `more` becomes a continuation line.
+    /// Builds a further header from its parts. Each of `more` becomes a continuation line.
     pub fn new(
         key: &'a [u8],
         value: &'a [u8],
@@ -79,7 +79,7 @@ impl<'a, const KIND: u8> Header<'a, KIND> {
         Ok(Header { key, value, more })
     }
 
-    // The further header at the start, with its continuation lines, and what follows it.
+    // Takes the further header at the start, with its continuation lines. Returns it and what follows.
     pub(crate) fn take(text: &'a [u8]) -> Result<(Header<'a, KIND>, &'a [u8]), HeaderFault>
         requires { IsEnding text.now → ⊥ }
         ensures header { IfOk result (λ p. IsHeader (kind_at KIND) (header_of p.0)) }

@@ -11,7 +11,7 @@ use crate::fault::HeaderFault;
 use crate::header::Header;
 use crate::line::{is_ending, message_in};
 
-// The lines of further headers at the start, up to the header's end, and what follows them.
+// Takes the lines of further headers at the start, up to the header's end. Returns them and what follows.
 fn take_lines<const KIND: u8>(text: &[u8]) -> Result<(&[u8], &[u8]), HeaderFault>
     ensures found { IfOk result (λ p. AreHeaders (kind_at KIND) p.0.now) }
     ensures parts { IfOk result (λ p. text.now ≡ p.0.now ++ p.1.now) }
@@ -60,8 +60,8 @@ impl<'a, const KIND: u8> Headers<'a, KIND> {
     ghost use Rattle.git_header.specs.Left.{headers_left};
     ghost use Rattle.git_header.specs.Lent.{message_of};
 
-    /// The further headers in the text, and the message after them, if there is one. No message and an
-    /// empty one are two values.
+    /// Takes the further headers in the text, and the message after them. `None` is no message, which differs
+    /// from an empty one.
     pub fn take(text: &'a [u8]) -> Result<(Headers<'a, KIND>, Option<&'a [u8]>), HeaderFault>
         ensures right { IfOk result (λ p. AllByRecursion (IsHeader (kind_at KIND)) (headers_left p.0)) }
         ensures found { IfOk result (λ p. text.now ≡ flat_map ended (flat_map header_lines (headers_left p.0)) ++ ending (message_of p.1)) }

@@ -33,7 +33,7 @@ impl Sign {
     }
 }
 
-// Whether the bytes may stand before or between the angle brackets.
+// Whether the bytes may be the text before or between the angle brackets.
 fn is_ident_text(bytes: &[u8]) -> bool
     ensures { IsTrue result ↔ IsIdentText bytes.now }
 {
@@ -43,7 +43,7 @@ fn is_ident_text(bytes: &[u8]) -> bool
     memchr(0, bytes).is_none()
 }
 
-// Whether there are no bytes, or the last of them is a space.
+// Whether the bytes are empty or end in a space.
 fn ends_in_space(bytes: &[u8]) -> bool
     ensures { IsTrue result ↔ EndsInSpace bytes.now }
 {
@@ -53,7 +53,7 @@ fn ends_in_space(bytes: &[u8]) -> bool
     }
 }
 
-// Whether the bytes are digits.
+// Whether the bytes are four digits.
 fn is_zone(zone: &[u8]) -> bool
     ensures { IsTrue result ↔ IsZone zone.now }
 {
@@ -63,7 +63,7 @@ fn is_zone(zone: &[u8]) -> bool
     zone.iter().all(|b| *b >= b'0' && *b <= b'9')
 }
 
-// The sign that the byte stands for.
+// Reads a sign from its byte.
 fn sign_of(byte: u8) -> Option<Sign>
     ensures found { IfSome result (λ sign. byte ≡ sign_byte sign) }
     ensures none { IfNone result ((sign : Sign) → byte ≢ sign_byte sign) }
@@ -75,7 +75,7 @@ fn sign_of(byte: u8) -> Option<Sign>
     }
 }
 
-// The seconds, the sign and the time zone after the angle brackets.
+// Reads what follows the angle brackets: the seconds, the sign and the time zone.
 fn read_time(text: &[u8]) -> Option<(u64, Sign, &[u8])>
     ensures found { IfSome result (λ t. text.now ≡ spelled_time t.0 t.1 t.2.now) }
     ensures none { IfNone result ((seconds : ℕ) (sign : Sign) (zone : List ℕ) → seconds < 2 ^ 63 → text.now ≢ spelled_time seconds sign zone) }
@@ -98,8 +98,8 @@ fn read_time(text: &[u8]) -> Option<(u64, Sign, &[u8])>
     Some((seconds, sign, zone))
 }
 
-/// Who wrote or committed something, and when: a name, an email, the seconds since 1970 and the time
-/// zone. No value of this type has another form.
+/// Who wrote or committed something, and when: a name, an email, the seconds since 1970 and the time zone. A
+/// value of this type is always valid.
 #[derive(Clone, Copy, Debug)]
 pub struct Ident<'a> {
     name: &'a [u8],
@@ -113,8 +113,8 @@ pub struct Ident<'a> {
 impl<'a> Ident<'a> {
     ghost use Rattle.git_header.specs.View.{ident_of};
 
-    /// The ident of these parts. The name is all that precedes `<`, so an empty name and one space are two
-    /// idents.
+    /// Builds an ident from its parts. The name is all that precedes `<`, so an empty name and a single space
+    /// give two idents.
     pub fn new(
         name: &'a [u8],
         email: &'a [u8],
@@ -141,7 +141,7 @@ impl<'a> Ident<'a> {
         })
     }
 
-    /// The ident that the text is.
+    /// Reads an ident from its one spelling.
     pub fn read(text: &'a [u8]) -> Option<Ident<'a>>
         ensures found { IfSome result (λ ident. IsIdent (ident_of ident) text.now) }
         ensures none { IfNone result ((ident : IdentValue) → IsIdent ident text.now → ⊥) }

@@ -6,7 +6,7 @@ ghost use Rattle.git_header.specs.Lent.{message_of};
 use crate::fault::HeaderFault;
 use memchr::memchr;
 
-// The bytes before the first such byte, and those after it.
+// The bytes before the first occurrence of `byte`, and those after it.
 pub(crate) fn cut(byte: u8, bytes: &[u8]) -> Option<(&[u8], &[u8])>
     ensures whole { IfSome result (λ p. bytes.now ≡ p.0.now ++ byte ∷ p.1.now) }
     ensures first { IfSome result (λ p. Lacks byte p.0.now) }
@@ -24,7 +24,7 @@ pub fn after_word<'a>(word: &[u8], bytes: &'a [u8]) -> Option<&'a [u8]>
     bytes.strip_prefix(word)
 }
 
-// Whether the header ends here: by the end of the bytes, or by an empty line.
+// Whether the header ends here: at the end of the bytes, or at an empty line.
 pub(crate) fn is_ending(text: &[u8]) -> bool
     ensures { IsTrue result ↔ IsEnding text.now }
 {
@@ -34,7 +34,7 @@ pub(crate) fn is_ending(text: &[u8]) -> bool
     }
 }
 
-// The message after the header, if there is one. No message and an empty one are two values.
+// The message after the header. `None` is no message, which differs from an empty one.
 pub(crate) fn message_in(text: &[u8]) -> Option<&[u8]>
     requires { IsEnding text.now }
     ensures { text.now ≡ ending (message_of result) }

@@ -13,7 +13,7 @@ use crate::ident::Ident;
 use crate::line::take_value;
 use git_name::Name;
 
-/// The name in the first line of a header, which begins with the word, and what follows the line.
+/// The name after the required word in the first line of a header, and what follows the line.
 pub fn take_name<'a>(word: &[u8], text: &'a [u8]) -> Result<(Name, &'a [u8]), HeaderFault>
     ensures name { IfOk result (λ p. IsName p.0) }
     ensures found { IfOk result (λ p. IsLine (word.now ++ encode_lower p.0) p.1.now text.now) }
@@ -28,7 +28,7 @@ pub fn take_name<'a>(word: &[u8], text: &'a [u8]) -> Result<(Name, &'a [u8]), He
     Ok((name, rest))
 }
 
-/// The ident in the first line of a header, which begins with the word, and what follows the line.
+/// The ident after the required word in the first line of a header, and what follows the line.
 pub fn take_ident<'a>(word: &[u8], text: &'a [u8]) -> Result<(Ident<'a>, &'a [u8]), HeaderFault>
     ensures ident { IfOk result (λ p. IsIdentValue (ident_of p.0)) }
     ensures found { IfOk result (λ p. IsLine (word.now ++ spelled_ident (ident_of p.0)) p.1.now text.now) }

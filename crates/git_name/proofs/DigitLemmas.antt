@@ -40,15 +40,15 @@ low_digit n less = grind (arith, nat_tests)
 high_digit : (n : ℕ) → 10 ≤ n → digit_of n ≡ 87 + n
 high_digit n more = grind (arith, nat_tests)
 
--- a byte of `0` to `9`
+-- a byte from `0` to `9`
 pub is_low : (byte : ℕ) → 48 ≤ byte → byte ≤ 57 → byte ≡ slice_index lower_digits (byte - 48)
 is_low byte low high = sym (digits_are (byte - 48) (omega arith) ∙ low_digit (byte - 48) (omega arith) ∙ (omega arith))
 
--- a byte of `a` to `f`
+-- a byte from `a` to `f`
 pub is_high : (byte : ℕ) → 97 ≤ byte → byte ≤ 102 → byte ≡ slice_index lower_digits (byte - 97 + 10)
 is_high byte low high = sym (digits_are (byte - 97 + 10) (omega arith) ∙ high_digit (byte - 97 + 10) (omega arith) ∙ (omega arith))
 
--- another byte
+-- any other byte
 pub is_none : (byte : ℕ) → (48 ≤ byte → byte ≤ 57 → ⊥) → (97 ≤ byte → byte ≤ 102 → ⊥) → (k : ℕ) → k < 16 → byte ≢ slice_index lower_digits k
 is_none byte not_low not_high k less is = by_place (nat_lt k 10) refl
   where
@@ -62,7 +62,7 @@ is_none byte not_low not_high k less is = by_place (nat_lt k 10) refl
         let place : byte ≡ 87 + k = is ∙ digits_are k less ∙ high_digit k large in
         not_high (omega arith) (omega arith)
 
--- the digits of some bytes and of others
+-- the digits of joined bytes are the joined digits
 encode-append : (xs ys : List ℕ) → encode_lower (xs ++ ys) ≡ encode_lower xs ++ encode_lower ys
 unfolding encode_with
 encode-append [] ys = refl
@@ -72,14 +72,14 @@ one_byte : (b : ℕ) → encode_lower (b ∷ []) ≡ slice_index lower_digits (b
 unfolding encode_with
 one_byte b = refl
 
--- two bytes more of a text
+-- two more bytes of a text
 two_more : (text : List ℕ) (at : ℕ) → 2 * at + 1 < length text → take (2 * (at + 1)) text ≡ take (2 * at) text ++ (slice_index text (2 * at) ∷ slice_index text (2 * at + 1) ∷ [])
 two_more text at fits =
     let two : 2 * (at + 1) ≡ 2 * at + 1 + 1 = omega arith in
     ap (λ n. take n text) two ∙ take_more text (2 * at + 1) 0 fits ∙ ap (λ (l : List ℕ). l ++ slice_index text (2 * at + 1) ∷ []) (take_more text (2 * at) 0 (omega arith))
     ∙ append_assoc (take (2 * at) text) (slice_index text (2 * at) ∷ []) (slice_index text (2 * at + 1) ∷ [])
 
--- two digits more are read
+-- two more digits are read
 pub pair_more : (text bytes : List ℕ) (at b : ℕ) → at < length bytes → 2 * at + 1 < length text → slice_index text (2 * at) ≡ slice_index lower_digits (b / 16) → slice_index text (2 * at + 1) ≡ slice_index lower_digits (b % 16)
     → encode_lower (take at bytes) ≡ take (2 * at) text → encode_lower (take (at + 1) (slice_set bytes at b)) ≡ take (2 * (at + 1)) text
 pair_more text bytes at b room fits high low so_far =
@@ -98,7 +98,7 @@ digits_at (b ∷ bytes) (suc at) fits =
     let rest = digits_at bytes at (omega arith) in
     (ap (λ n. slice_index (encode_lower (b ∷ bytes)) n) two ∙ rest.0, ap (λ n. slice_index (encode_lower (b ∷ bytes)) n) three ∙ rest.1)
 
--- a byte that is no digit stands in the digits of no name
+-- a byte that is no digit is in the digits of no name
 pub no_digits : (text : List ℕ) (at place byte : ℕ) → at < 32 → (place ≡ 2 * at) ⊎ (place ≡ 2 * at + 1) → byte ≡ slice_index text place → ((k : ℕ) → k < 16 → byte ≢ slice_index lower_digits k)
     → (name : List ℕ) → IsName name → text ≢ encode_lower name
 no_digits text at place byte less which is none name is_name spelled =
@@ -129,7 +129,7 @@ below_16 n is = grind (arith, nat_tests)
 from_16 : (n : ℕ) → nat_lt n 16 ≡ false → 16 ≤ n
 from_16 n is = grind (arith, nat_tests)
 
--- two right digits behind right ones
+-- two valid digits after valid ones
 pub pair_right : (text bytes : List ℕ) (at high low : ℕ) (right : Bool) → at < 32 → length bytes ≡ 32 → length text ≡ 64 → (right ≡ true → encode_lower (take at bytes) ≡ take (2 * at) text)
     → (high < 16 → slice_index text (2 * at) ≡ slice_index lower_digits high) → (low < 16 → slice_index text (2 * at + 1) ≡ slice_index lower_digits low)
     → right && nat_lt high 16 && nat_lt low 16 ≡ true → encode_lower (take (at + 1) (slice_set bytes at (high % 16 * 16 + low % 16))) ≡ take (2 * (at + 1)) text
@@ -142,7 +142,7 @@ pair_right text bytes at high low right less room fits so_far first second all =
     pair_more text bytes at (high % 16 * 16 + low % 16) (omega arith) (omega arith)
     (first upper ∙ ap (λ n. slice_index lower_digits n) top) (second lower ∙ ap (λ n. slice_index lower_digits n) bottom) (so_far parts.0)
 
--- a wrong digit, or one behind a wrong one
+-- a wrong digit, or a digit after a wrong one
 pub pair_wrong : (text : List ℕ) (at high low : ℕ) (right : Bool) → at < 32 → (right ≡ false → (name : List ℕ) → IsName name → text ≢ encode_lower name)
     → (16 ≤ high → (k : ℕ) → k < 16 → slice_index text (2 * at) ≢ slice_index lower_digits k) → (16 ≤ low → (k : ℕ) → k < 16 → slice_index text (2 * at + 1) ≢ slice_index lower_digits k)
     → right && nat_lt high 16 && nat_lt low 16 ≡ false → (name : List ℕ) → IsName name → text ≢ encode_lower name

@@ -29,7 +29,7 @@ is_equal Less e = cc
 is_equal Equal e = refl
 is_equal Greater e = cc
 
--- the two tests of names are one
+-- the two tests of names agree
 pub one_test : (q k : List ℕ) → same_name q k ≡ is_at (name_cmp q) k
 one_test q k = same_bool _ _
     (λ e. subst (λ x. is_at (name_cmp q) x ≡ true) (one_name q k e) ((eq_by_cmp_equiv name_total).refl q))

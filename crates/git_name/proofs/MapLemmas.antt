@@ -1,4 +1,4 @@
--- What a finite map with other values, or two maps as one, have at a key.
+-- What a finite map with other values, or the union of two maps, has at a key.
 use Rattle.std.proofs.Common.{◌&&◌, Bool, true, false, ◌≡◌, ◌++◌, List, [], ◌∷◌, Option, Some, None, cond, refl, sym, ap, subst, ◌∙◌}
 use Rattle.std.specs.declared.cmp.Ordering.{Ordering}
 use Rattle.std.specs.Ordering.{eq_by_cmp, is_lt}
@@ -12,7 +12,7 @@ use Rattle.std.specs.FinMap.Entries.{below_all}
 use Rattle.git_name.specs.Maps.{joined, map_values, mapped}
 use Rattle.git_name.proofs.TreeMaps.{find_is_lookup, get_of_entries}
 
--- other values stand in the same order
+-- other values leave the order of the keys as it is
 mapped_below : {K X Y : Type 0} (R : K → K → Ordering) (f : X → Y) (k : K) (es : List (K × X)) → below_all R k (mapped f es) ≡ below_all R k es
 mapped_below R f k [] = refl
 mapped_below R f k (e ∷ es) = ap (λ b. is_lt (R k e.0) && b) (mapped_below R f k es)
@@ -53,7 +53,7 @@ lookup_append : {K X : Type 0} (test : K → Bool) (es fs : List (K × X)) → l
 lookup_append test [] fs = refl
 lookup_append test (e ∷ es) fs = ap (cond (test e.0) (Some e.1)) (lookup_append test es fs) ∙ or_cond (test e.0) e.1 (lookup test es) (lookup test fs)
 
--- two maps as one, at a key
+-- the union of two maps, at a key
 pub get_joined : {K X : Type 0} {R : K → K → Ordering} → IsTotalOrder R → (m n : FinMap R X) (q : K) → get (joined m n) q ≡ option_or (get m q) (get n q)
 unfolding joined
 get_joined {R = R} total m n q =
@@ -64,14 +64,14 @@ or_none : {X : Type 0} (o : Option X) → option_or o None ≡ o
 or_none None = refl
 or_none (Some x) = refl
 
--- joined with nothing
+-- the union with the empty map
 pub joined_empty : {K X : Type 0} {R : K → K → Ordering} → IsTotalOrder R → IsAntisymmetric R → (m : FinMap R X) → joined m empty ≡ m
 joined_empty {X = X} {R = R} total exact m = same_map total exact _ _ (λ q. get_joined total m empty q ∙ ap (option_or (get m q)) (get-empty {X = X} R q) ∙ or_none (get m q))
 
 empty_mapped : {X Y : Type 0} (f : X → Y) → option_map f None ≡ None
 empty_mapped f = refl
 
--- nothing, with other values
+-- the empty map with other values
 pub map_values_empty : {K X Y : Type 0} {R : K → K → Ordering} → IsTotalOrder R → IsAntisymmetric R → (f : X → Y) → map_values f (empty {R = R}) ≡ empty
 map_values_empty {X = X} {Y = Y} {R = R} total exact f = same_map total exact _ _ (λ q. get_map_values total f empty q ∙ ap (option_map f) (get-empty {X = X} R q) ∙ empty_mapped f ∙ sym (get-empty {X = Y} R q))
 

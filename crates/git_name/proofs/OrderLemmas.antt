@@ -1,4 +1,4 @@
--- Bytes are ordered and equal as the numbers are that eight of them at a time write.
+-- Bytes compare as the numbers do that eight of them at a time write.
 use Rattle.std.proofs.Common.{◌≡◌, ◌≢◌, ℕ, zero, suc, ◌+◌, ◌*◌, ◌<◌, ◌≤◌, Bool, true, false, List, [], ◌∷◌, refl, sym, ap, ap₂, ◌∙◌, ◌&&◌, ◌==◌, Ordering, Less, Equal, Greater, length, length-drop, drop, ◌-◌, subst, arith, nat_lt}
 use Rattle.std.proofs.lemmas.Bool.Decides.{nat_tests}
 use Rattle.std.proofs.lemmas.List.{drop-drop, get_or-drop, nil_from_length}
@@ -10,13 +10,13 @@ use Rattle.std.specs.FinMap.{nat_cmp-IsAntisymmetric}
 use Rattle.hex.specs.Hex.{IsBytes}
 use Rattle.git_name.specs.Same.{same_name}
 
--- the number that the first bytes write behind those before
+-- the number that the first bytes write, after the number of those before
 abbrev value : ℕ → ℕ → List ℕ → ℕ
 value before zero bytes = before
 value before (suc more) [] = before
 value before (suc more) (b ∷ bytes) = value (before * 256 + b) more bytes
 
--- what comes behind is worth less than what stands before
+-- what precedes outweighs what follows
 value_less : (more a b : ℕ) (xs ys : List ℕ) → IsBytes xs → IsBytes ys → more ≤ length xs → more ≤ length ys → a < b → value a more xs < value b more ys
 value_less zero a b xs ys are too long long_too less = less
 value_less (suc more) a b [] ys are too long long_too less = absurd (omega arith)
@@ -34,7 +34,7 @@ greater_is x y greater = sym (nat_cmp_is x y Greater greater)
 equal_is : (x y : ℕ) → x ≡ y → nat_cmp x y ≡ Equal
 equal_is x y same = sym (nat_cmp_is x y Equal same)
 
--- the first bytes decide as their number does
+-- the numbers of the first bytes decide, and then the rest
 by_value : (more before : ℕ) (xs ys : List ℕ) → IsBytes xs → IsBytes ys → more ≤ length xs → more ≤ length ys
     → slice_cmp nat_cmp xs ys ≡ ordering_then (nat_cmp (value before more xs) (value before more ys)) (slice_cmp nat_cmp (drop more xs) (drop more ys))
 by_value zero before xs ys are too long long_too = ap (λ o. ordering_then o (slice_cmp nat_cmp xs ys)) (sym (equal_is before before refl))
@@ -78,7 +78,7 @@ word_is (a ∷ b ∷ c ∷ d ∷ e ∷ f ∷ []) long = absurd (omega arith)
 word_is (a ∷ b ∷ c ∷ d ∷ e ∷ f ∷ g ∷ []) long = absurd (omega arith)
 word_is (a ∷ b ∷ c ∷ d ∷ e ∷ f ∷ g ∷ h ∷ rest) long = omega arith
 
--- the first eight bytes decide as their number does
+-- the numbers of the first eight bytes decide, and then the rest
 pub by_word : (xs ys : List ℕ) → IsBytes xs → IsBytes ys → 8 ≤ length xs → 8 ≤ length ys
     → slice_cmp nat_cmp xs ys ≡ ordering_then (nat_cmp (from_be_bytes w64 xs) (from_be_bytes w64 ys)) (slice_cmp nat_cmp (drop 8 xs) (drop 8 ys))
 by_word xs ys are too long long_too =
@@ -112,7 +112,7 @@ regrouped Equal Equal Less = refl
 regrouped Equal Equal Equal = refl
 regrouped Equal Equal Greater = refl
 
--- the order of two names behind their first eight bytes
+-- the order of two names after their first eight bytes
 pub behind_first : (xs ys : List ℕ) → IsBytes xs → IsBytes ys → length xs ≡ 32 → length ys ≡ 32
     → slice_cmp nat_cmp (drop 8 xs) (drop 8 ys) ≡ ordering_then (ordering_then (at_place 8 xs ys) (at_place 16 xs ys)) (at_place 24 xs ys)
 behind_first xs ys are too long long_too =
@@ -120,7 +120,7 @@ behind_first xs ys are too long long_too =
     let third = next_word 16 xs ys are too (omega arith) (omega arith) ∙ ap (ordering_then (at_place 16 xs ys)) last in
     next_word 8 xs ys are too (omega arith) (omega arith) ∙ ap (ordering_then (at_place 8 xs ys)) third ∙ regrouped (at_place 8 xs ys) (at_place 16 xs ys) (at_place 24 xs ys)
 
--- the first eight bytes decide where they differ
+-- the first eight bytes decide if they differ
 pub first_decides : (xs ys : List ℕ) → IsBytes xs → IsBytes ys → length xs ≡ 32 → length ys ≡ 32 → (first second : ℕ) → first ≡ from_be_bytes w64 xs → second ≡ from_be_bytes w64 ys → first ≢ second
     → nat_cmp first second ≡ slice_cmp nat_cmp xs ys
 first_decides xs ys are too long long_too first second is is_too apart =
@@ -133,14 +133,14 @@ first_decides xs ys are too long long_too first second is is_too apart =
     decided Equal apart rest = absurd (apart refl)
     decided Greater apart rest = refl
 
--- and else those behind
+-- the rest decides if they are equal
 pub rest_decides : (xs ys : List ℕ) → IsBytes xs → IsBytes ys → length xs ≡ 32 → length ys ≡ 32 → (first second : ℕ) → first ≡ from_be_bytes w64 xs → second ≡ from_be_bytes w64 ys → first ≡ second
     → slice_cmp nat_cmp (drop 8 xs) (drop 8 ys) ≡ slice_cmp nat_cmp xs ys
 rest_decides xs ys are too long long_too first second is is_too same =
     sym (by_word xs ys are too (omega arith) (omega arith)
     ∙ ap (λ o. ordering_then o (slice_cmp nat_cmp (drop 8 xs) (drop 8 ys))) (equal_is (from_be_bytes w64 xs) (from_be_bytes w64 ys) (sym is ∙ same ∙ is_too)))
 
--- whether eight bytes of two texts are one number
+-- whether eight bytes of two texts are the same number
 abbrev same_at : ℕ → List ℕ → List ℕ → Bool
 same_at n xs ys = from_be_bytes w64 (drop n xs) == from_be_bytes w64 (drop n ys)
 
@@ -156,7 +156,7 @@ all_tied Equal Equal Less d = refl
 all_tied Equal Equal Greater d = refl
 all_tied Equal Equal Equal d = refl
 
--- two names are one where the four numbers are that they write
+-- two names are equal if the four numbers that they write are equal
 pub same_words : (xs ys : List ℕ) → IsBytes xs → IsBytes ys → length xs ≡ 32 → length ys ≡ 32
     → (((same_at 0 xs ys && same_at 8 xs ys) && same_at 16 xs ys) && same_at 24 xs ys) ≡ same_name xs ys
 same_words xs ys are too long long_too =

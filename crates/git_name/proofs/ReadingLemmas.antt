@@ -77,7 +77,7 @@ none_of : {A : Type 0} (o : Option A) → ((a : A) → o ≡ Some a → ⊥) →
 none_of None never = refl
 none_of (Some a) never = absurd (never a refl)
 
--- so a text that writes no name has none
+-- so a text that writes no name reads as none
 pub no_name : (text : List ℕ) → ((name : List ℕ) → IsName name → text ≢ encode_lower name) → name_in text ≡ None
 no_name text never = none_of (name_in text) (λ name is. never name (is_name_in text name is) (written_name text name is))
 
@@ -105,7 +105,7 @@ number_in-decimal n small =
     let is = (decimal_is_IsNumeral n small).1 in
     digits_again n (digits_value 10 (decimal n)) _ small is (same_bytes (decimal (digits_value 10 (decimal n))) (decimal n) (ap decimal is))
 
--- so a text that writes no number has none
+-- so a text that writes no number reads as none
 pub no_number : (text : List ℕ) → ((n : ℕ) → n < 2 ^ 64 → text ≢ decimal n) → number_in text ≡ None
 no_number text never = none_of (number_in text) (λ n is. never n (written_number text n is).1 (written_number text n is).0)
 

@@ -40,11 +40,11 @@ ascending (k ∷ ks) up apart = (
   ascending ks (λ i j d below inside. up (suc i) (suc j) d (omega arith) (omega arith)) apart.1,
 )
 
--- names that do not fall, and differ, ascend
+-- sorted names that differ are in strict order
 pub strictly_sorted : (ks : List (List ℕ)) → IsSorted name_cmp ks → IsDistinct same_name ks → IsStrictlySortedBy name_cmp ks
 strictly_sorted ks sorted distinct = ascending ks (λ i j d below inside. sorted_far _ (ranks_by name_total (λ a. a)) ks sorted i j d (omega arith) inside) (distinct_by_order ks distinct)
 
--- names in another order that ascends are the keys of a map that has just them
+-- names, once sorted, are the keys of a map that has just them
 pub sorted_keys : {X : Type 0} (m : FinMap name_cmp X) (names sorted : List (List ℕ)) → IsStrictlySortedBy name_cmp (keys m) → IsPermutation names sorted → IsSorted name_cmp sorted → IsDistinct same_name names
     → ((q : List ℕ) → list_any (is_at (name_cmp q)) names ≡ contains_key m q) → sorted ≡ keys m
 sorted_keys m names sorted ascends moved in_order distinct at =

@@ -1,4 +1,4 @@
--- A text is split in one way, and its words are what is between its spaces.
+-- A text is split in one way only, and its words are what is between its spaces.
 use Rattle.std.proofs.Common.{◌≡◌, ◌≢◌, ℕ, ◌<◌, ◌≤◌, length, take, get_or, length-take, Bool, true, false, cond, eqb, All, List, [], ◌∷◌, ◌++◌, Option, Some, None, refl, sym, ap, arith, ◌∙◌, option_map, unwrap_or}
 use Rattle.std.proofs.lemmas.Bool.Decides.{nat_tests}
 use Rattle.std.proofs.lemmas.List.{get_or-take}
@@ -12,14 +12,14 @@ differs b byte apart = grind (arith, nat_tests)
 same : (byte : ℕ) → eqb byte byte ≡ true
 same byte = grind (arith, nat_tests)
 
--- a text with such a byte behind bytes that are none
+-- a text with the byte, after bytes without it
 pub split_once-append : (byte : ℕ) (a b : List ℕ) → All (λ x. x ≢ byte) a → split_once byte (a ++ byte ∷ b) ≡ Some (a, b)
 split_once-append byte [] b plain = ap (λ (c : Bool). cond c (Some ([], b)) (option_map (λ p. (byte ∷ p.0, p.1)) (split_once byte b))) (same byte)
 split_once-append byte (x ∷ a) b plain =
     ap (λ (c : Bool). cond c (Some ([], a ++ byte ∷ b)) (option_map (λ p. (x ∷ p.0, p.1)) (split_once byte (a ++ byte ∷ b)))) (differs x byte (All-head (λ y. y ≢ byte) x a plain))
     ∙ ap (option_map (λ p. (x ∷ p.0, p.1))) (split_once-append byte a b (All-tail (λ y. y ≢ byte) x a plain))
 
--- a text without such a byte
+-- a text without the byte
 pub split_once-none : (byte : ℕ) (a : List ℕ) → All (λ x. x ≢ byte) a → split_once byte a ≡ None
 split_once-none byte [] plain = refl
 split_once-none byte (x ∷ a) plain =
@@ -40,7 +40,7 @@ words_of-plain (x ∷ a) plain =
     ap (λ (c : Bool). cond c ([] ∷ words_of a) (onto_first x (words_of a))) (differs x 32 (All-head (λ y. y ≢ 32) x a plain))
     ∙ ap (onto_first x) (words_of-plain a (All-tail (λ y. y ≢ 32) x a plain))
 
--- the bytes before the first such place are none such
+-- the byte does not occur before its first place
 pub front_plain : (byte end : ℕ) (t : List ℕ) → Nowhere (Passes (is_byte byte) t) 0 end → end ≤ length t → All (λ b. b ≢ byte) (take end t)
 front_plain byte end t nowhere fits =
     All-from_get_or (λ b. b ≢ byte) (take end t) 0 (λ i within is.
@@ -50,7 +50,7 @@ front_plain byte end t nowhere fits =
     found : (i : ℕ) → get_or t i 0 ≡ byte → eqb (get_or t i 0) byte ≡ true
     found i is = ap (λ b. eqb b byte) is ∙ same byte
 
--- a text with no such place has none such
+-- a text without such a place lacks the byte
 pub all_plain : (byte : ℕ) (t : List ℕ) → Nowhere (Passes (is_byte byte) t) 0 (length t) → All (λ b. b ≢ byte) t
 all_plain byte t nowhere =
     All-from_get_or (λ b. b ≢ byte) t 0 (λ i within is. nowhere i (omega arith) within (ap (λ b. eqb b byte) is ∙ same byte))
@@ -95,7 +95,7 @@ plain_first byte b xs a c false (Some p) apart rest is =
     let first : b ∷ p.0 ≡ a = ap (λ (r : Option (List ℕ × List ℕ)). unwrap_or (option_map (λ q. q.0) r) []) is in
     All-same (λ x. x ≢ byte) _ _ (sym first) (All-cons (λ x. x ≢ byte) b p.0 (apart refl) (rest p.0 p.1 refl))
 
--- no such byte stands in the first part
+-- the byte does not occur in the first part
 pub split_once-plain : (byte : ℕ) (text a c : List ℕ) → split_once byte text ≡ Some (a, c) → All (λ x. x ≢ byte) a
 split_once-plain byte [] a c is = absurd (cc)
 split_once-plain byte (b ∷ xs) a c is =

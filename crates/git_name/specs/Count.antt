@@ -5,11 +5,11 @@ use Rattle.std.specs.Prelude.{◌≡◌, ◌⊎◌, ℕ, ◌+◌, Option, None, 
 abbrev pub greatest_count : ℕ
 greatest_count = 18446744073709551615
 
--- a count rises by one, and stays at the greatest
+-- a count rises by one, but stays at the greatest
 abbrev pub Rises : ℕ → ℕ → Type 0
 Rises before now = (now ≡ before + 1) ⊎ ((before ≡ greatest_count) × (now ≡ before))
 
--- the fault of a result
+-- the fault of a result, if it has one
 abbrev pub fault_in : {A F : Type 0} → Result A F → Option F
 fault_in (Ok a) = None
 fault_in (Err fault) = Some fault

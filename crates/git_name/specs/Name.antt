@@ -12,11 +12,11 @@ pub record IsName (name : List ℕ) : Type 0 where
   pub length : length name ≡ 32
   pub bytes : IsBytes name
 
--- bytewise
+-- the bytewise order
 abbrev pub name_cmp : List ℕ → List ℕ → Ordering
 name_cmp = slice_cmp nat_cmp
 
--- what was read, if it is written as the same text again
+-- what was read, if writing it gives the same text again
 abbrev pub same_again : List ℕ → Result (List ℕ) FromHexError → Option (List ℕ)
 same_again text (Ok name) = if bytes_eq (encode_lower name) text then Some name else None
 same_again text (Err error) = None

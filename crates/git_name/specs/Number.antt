@@ -3,7 +3,7 @@ use Rattle.std.specs.Prelude.{ℕ, ◌^◌, ◌&&◌, nat_lt, List, Option, None
 use Rattle.std.specs.Str.{bytes_eq}
 use Rattle.std.specs.Str.Parse.{digits_value}
 
--- the number that a text writes: the one that is written as this very text
+-- the number that a text writes: the one whose decimal digits are this very text
 unfoldable pub number_in : List ℕ → Option ℕ
 number_in text =
     let number = digits_value 10 text in

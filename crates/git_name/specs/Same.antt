@@ -13,10 +13,10 @@ same_name = pointwise nat_eq
 abbrev pub is_listed : List (List ℕ) → List ℕ → Bool
 is_listed names name = list_any (same_name name) names
 
--- the same by the order of names
+-- whether a name is in a list, by the order of names
 abbrev pub is_one_of : List (List ℕ) → List ℕ → Bool
 is_one_of names name = list_any (is_at (name_cmp name)) names
 
--- entries that have this at one name, and the same as others at every other name
+-- the new entries have this value at the name, and what the old ones have at every other name
 abbrev pub Sets : {X : Type 0} → List (List ℕ × X) → List (List ℕ × X) → List ℕ → Option X → Type 0
 Sets old new name value = (q : List ℕ) → lookup (is_at (name_cmp q)) new ≡ cond (is_at (name_cmp name) q) value (lookup (is_at (name_cmp q)) old)

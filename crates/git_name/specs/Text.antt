@@ -2,11 +2,11 @@
 use Rattle.std.specs.Coded.{Coded, coded_list, coded_ℕ}
 use Rattle.std.specs.Prelude.{◌≡◌, ◌≢◌, ℕ, ◌==◌, List, [], ◌∷◌, ◌++◌, All, Option, None, Some, if◌then◌else◌, option_map}
 
--- no byte is this one
+-- the byte does not occur
 abbrev pub Lacks : ℕ → List ℕ → Type 0
 Lacks byte bytes = All (λ b. b ≢ byte) bytes
 
--- a list begins with another one
+-- a list begins with another list
 abbrev pub Begins : {A : Type 0} → List A → List A → Type 0
 Begins {A} front whole = (rest : List A) × (whole ≡ front ++ rest)
 
@@ -14,7 +14,7 @@ Begins {A} front whole = (rest : List A) × (whole ≡ front ++ rest)
 abbrev pub ended : List ℕ → List ℕ
 ended line = line ++ 10 ∷ []
 
--- what precedes the first such byte, and what follows it
+-- what precedes the first occurrence of the byte, and what follows it
 abbrev pub split_once : ℕ → List ℕ → Option (List ℕ × List ℕ)
 split_once byte [] = None
 split_once byte (b ∷ bs) = if b == byte then Some ([], bs) else option_map (λ p. (b ∷ p.0, p.1)) (split_once byte bs)

@@ -2,8 +2,8 @@ ghost use Rattle.std.specs.Prelude.{◌≡◌, ◌≢◌, ◌<◌, ◌≤◌, �
 ghost use Rattle.hex.specs.Hex.{encode_lower, lower_digits};
 ghost use Rattle.git_name.specs.Name.{IsName};
 
-/// The 32 bytes that 64 lower case digits write. Digits are unpredictable, so only the last step
-/// branches on whether they are valid.
+/// Reads 32 bytes from 64 lower-case hex digits. Digits are unpredictable, so only the last step branches on
+/// whether they are valid.
 pub(crate) fn read_digits(text: &[u8]) -> Option<[u8; 32]>
     ensures found { IfSome result (λ bytes. text.now ≡ encode_lower bytes) }
     ensures none { IfNone result ((name : List ℕ) → IsName name → text.now ≢ encode_lower name) }
@@ -22,7 +22,7 @@ pub(crate) fn read_digits(text: &[u8]) -> Option<[u8; 32]>
     if right { Some(bytes) } else { None }
 }
 
-// The value of a lower case digit, and 16 for any other byte.
+// The value of a lower-case hex digit, or 16 for any other byte.
 #[inline]
 fn value(byte: u8) -> u8
     ensures right { result < 16 → byte ≡ slice_index lower_digits result }

@@ -2,28 +2,28 @@ ghost use Rattle.std.specs.Prelude.{◌≡◌};
 ghost use Rattle.std.specs.Hash.DefaultHasher as sip;
 
 use std::hash::{BuildHasher, DefaultHasher, Hasher};
+use std::io;
 use std::random::RandomSource;
 
-/// How a process hashes names: SipHash-1-3 keyed by 16 bytes of the process. Someone who chooses names
-/// without knowing these bytes cannot choose names that collide in a map.
+/// How a process hashes names: by SipHash-1-3, keyed with 16 bytes of the process. Someone who does not know
+/// these bytes cannot choose names that collide in a map.
 #[derive(Clone, Copy)]
 pub struct Hashing {
     start: DefaultHasher,
 }
 
 impl Hashing {
-    /// With 16 bytes that the system draws, or the default if it draws none.
-    pub fn drawn(rt: &impl RandomSource) -> Hashing {
-        let mut start = DefaultHasher::new();
+    /// Keys the hash with 16 bytes that the system draws.
+    pub fn drawn(rt: &impl RandomSource) -> io::Result<Hashing> {
         let mut secret = [0; 16];
-        if rt.fill_bytes(&mut secret).is_ok() {
-            start.write(&secret);
-        }
-        Hashing { start }
+        rt.fill_bytes(&mut secret)?;
+        let mut start = DefaultHasher::new();
+        start.write(&secret);
+        Ok(Hashing { start })
     }
 }
 
-/// Without such bytes, and so the same in every process.
+/// Hashes without a key, and so alike in every process.
 impl Default for Hashing {
     ghost is_default = { λ hashing. hashing.start ≡ sip.initial };
 

@@ -2,7 +2,7 @@ ghost use Rattle.std.specs.Prelude.{◌≡◌, ◌≢◌, IfSome, IfNone};
 ghost use Rattle.git_name.specs.declared.kind.Kind.{Kind};
 ghost use Rattle.git_name.specs.Kind.{kind_of_word, type_word};
 
-/// What an object is (git-cat-file(1)).
+/// The kind of an object (git-cat-file(1)).
 #[derive(Clone, Copy, Debug, PartialEq, Eq, PartialOrd, Ord, Hash)]
 pub enum Kind {
     Blob,

@@ -53,7 +53,7 @@ impl Name {
         &self.bytes
     }
 
-    /// The name that these 64 lower case digits write. Upper case digits write no name.
+    /// Parses a name from 64 lower-case hex digits. Upper-case digits are refused.
     pub fn parse_hex(text: &[u8]) -> Option<Name>
         ensures value { result ≡ name_in text.now }
         ensures found { IfSome result (λ name. text.now ≡ encode_lower name) }
@@ -65,7 +65,7 @@ impl Name {
         Some(Name { bytes })
     }
 
-    /// Writes the name as 64 lower case digits.
+    /// Writes the name as 64 lower-case hex digits.
     pub fn write_hex(&self, out: &mut [u8; 64])
         ensures { out.new ≡ encode_lower self.now }
     {
@@ -128,8 +128,8 @@ impl Ord for Name {
     }
 }
 
-/// The name of the object of this kind with this content. One pass over the bytes, without a copy or an
-/// allocation (Git's hash-function-transition; FIPS 180-4).
+/// Returns the name of the object with this kind and content (Git's hash-function-transition; FIPS 180-4). It
+/// makes one pass over the bytes, without a copy or an allocation.
 pub fn name_of(kind: Kind, bytes: &[u8]) -> Name
     ensures { result ≡ object_name (record { kind = kind; bytes = bytes.now }) }
 {

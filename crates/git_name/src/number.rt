@@ -14,8 +14,7 @@ fn has_needless_start(text: &[u8]) -> bool
     }
 }
 
-/// The number that these decimal digits write, without a sign or leading zeros (own). It allocates
-/// nothing.
+/// Parses a decimal number without a sign or leading zeros (own). It allocates nothing.
 pub fn decimal(text: &[u8]) -> Option<u64>
     ensures value { result ≡ number_in text.now }
     ensures found { IfSome result (λ n. text.now ≡ spelled n) }

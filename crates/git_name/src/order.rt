@@ -6,8 +6,7 @@ ghost use Rattle.git_name.specs.Same.{same_name};
 
 use std::cmp::Ordering;
 
-/// The order of two names by their bytes. The first eight nearly always decide, so only these are
-/// compared inline.
+/// Compares two names by their bytes. The first eight nearly always decide, so only these are compared inline.
 #[inline]
 pub(crate) fn order(left: &[u8; 32], right: &[u8; 32]) -> Ordering
     ensures { result ≡ slice_cmp nat_cmp left.now right.now }
@@ -31,7 +30,7 @@ pub(crate) fn same(left: &[u8; 32], right: &[u8; 32]) -> bool
     first & second & third & fourth
 }
 
-// The order of what follows the first eight bytes.
+// Compares what follows the first eight bytes.
 #[inline(never)]
 fn order_behind(left: &[u8; 32], right: &[u8; 32]) -> Ordering
     ensures { result ≡ slice_cmp nat_cmp (drop 8 left.now) (drop 8 right.now) }
@@ -42,7 +41,7 @@ fn order_behind(left: &[u8; 32], right: &[u8; 32]) -> Ordering
     second.then(third).then(fourth)
 }
 
-// Eight bytes as a big-endian number: numbers are ordered as their bytes are.
+// Eight bytes as a big-endian number. Such numbers are ordered as their bytes are.
 #[inline]
 fn word(bytes: &[u8; 32], at: usize) -> u64
     requires { at + 8 ≤ 32 }

@@ -6,7 +6,7 @@ use crate::name::{Name, name_of};
 use std::alloc::AllocError;
 use std::marker::Model;
 
-/// An object with its name. No value of this type has another name than its object's.
+/// An object with its name. No value of this type has a wrong name.
 #[derive(Debug, Drop)]
 pub struct Sealed {
     kind: Kind,
@@ -25,7 +25,7 @@ impl Model for Sealed {
     ghost invariant = { λ a. a.name ≡ object_name (record { kind = a.kind; bytes = a.bytes.items }) };
 }
 
-/// Names an object and keeps both together. It allocates nothing.
+/// Computes an object's name, and keeps both together. It allocates nothing.
 pub fn seal(kind: Kind, bytes: Vec<u8>) -> Sealed
     ensures { result ≡ record { kind = kind; bytes = bytes.items } }
 {
@@ -33,7 +33,7 @@ pub fn seal(kind: Kind, bytes: Vec<u8>) -> Sealed
     Sealed { kind, bytes, name }
 }
 
-/// The same for an object whose name is already known. It hashes nothing.
+/// Like `seal`, for an object whose name is already known. It hashes nothing.
 pub fn seal_as(kind: Kind, bytes: Vec<u8>, name: Name) -> Sealed
     requires { name ≡ object_name (record { kind = kind; bytes = bytes.items }) }
     ensures { result ≡ record { kind = kind; bytes = bytes.items } }
@@ -42,7 +42,7 @@ pub fn seal_as(kind: Kind, bytes: Vec<u8>, name: Name) -> Sealed
 }
 
 impl Sealed {
-    /// What the object is.
+    /// The object's kind.
     pub fn kind(&self) -> Kind
         ensures { result ≡ self.now.kind }
     {

@@ -3,8 +3,8 @@ ghost use Rattle.git_name.specs.Text.{split_once as parted, words_of};
 
 use memchr::memchr;
 
-/// What precedes the first such byte and what follows it, if the text contains it: a line and the rest,
-/// or a word and the rest. It allocates nothing.
+/// Splits the text at the first occurrence of the byte: into a line and the rest, or a word and the rest. It
+/// allocates nothing.
 pub fn split_once(text: &[u8], byte: u8) -> Option<(&[u8], &[u8])>
     ensures value { option_map (λ p. (p.0.now, p.1.now)) result ≡ parted byte text.now }
     ensures whole { IfSome result (λ p. text.now ≡ p.0.now ++ byte ∷ p.1.now) }
@@ -17,8 +17,8 @@ pub fn split_once(text: &[u8], byte: u8) -> Option<(&[u8], &[u8])>
     Some((&text[..end], &text[end + 1..]))
 }
 
-/// The first word of a line and the text of the others, if there are at least two words; words are
-/// separated by one SP each. It allocates nothing.
+/// Splits a line of at least two words into the first word and the text of the others. One SP separates two
+/// words. It allocates nothing.
 pub fn first_word(line: &[u8]) -> Option<(&[u8], &[u8])>
     ensures more { IfSome result (λ p. words_of line.now ≡ p.0.now ∷ words_of p.1.now) }
     ensures one { IfNone result (words_of line.now ≡ line.now ∷ []) }

@@ -1,4 +1,4 @@
--- Worked objects: what the definitions say of small tags, in the form of git-mktag(1), and of no bytes at all.
+-- Examples of objects: what the definitions say of small tags, in the form of git-mktag(1), and of empty bytes.
 use Rattle.std.proofs.Common.{◌≡◌, ℕ, List, [], ◌∷◌, ◌++◌, codes, None, Some, refl}
 use Rattle.std.specs.Fmt.{digits}
 use Rattle.hex.specs.Hex.{encode_with, decode_pairs}
@@ -41,7 +41,7 @@ pub smallest_links : links_in kind.Tag (object_line ++ codes "type blob\ntag v\n
 unfolding links_in object_in tag_in header_part message_part lines_in gather name_in number_in encode_with decode_pairs digits
 smallest_links = refl
 
--- each part there
+-- every part is present
 pub whole_tag : tag_in (object_line ++ codes "type tag\ntag v\ntagger A <a@x> 100 +0000\nsig a b\n c\n\nhi\n") ≡ Some (record {
   object = blob;
   kind = kind.Tag;
@@ -53,7 +53,7 @@ pub whole_tag : tag_in (object_line ++ codes "type tag\ntag v\ntagger A <a@x> 10
 unfolding tag_in header_part message_part lines_in gather name_in number_in encode_with decode_pairs digits
 whole_tag = refl
 
--- a type that is none, no type, an empty name, and no last line feed
+-- an unknown type, no type, an empty name, and no last line feed
 pub blub_is_none : object_in kind.Tag (object_line ++ codes "type blub\ntag v\n") ≡ None
 unfolding object_in tag_in header_part message_part lines_in gather name_in number_in encode_with decode_pairs digits
 blub_is_none = refl
@@ -74,7 +74,7 @@ pub cut_tag : tag_in (object_line ++ codes "type blob\ntag v") ≡ None
 unfolding tag_in header_part message_part lines_in gather name_in number_in encode_with decode_pairs digits
 cut_tag = refl
 
--- no bytes are a blob and a tree, and neither a commit nor a tag
+-- empty bytes are a blob and a tree, but neither a commit nor a tag
 pub empty_blob : object_in kind.Blob [] ≡ Some (BlobValue [])
 unfolding object_in
 empty_blob = refl

@@ -18,7 +18,7 @@ use Rattle.git_object.proofs.WholeLemmas.{one_tag, no_tag}
 one_tree : (bytes : List ℕ) (row other : List Entry) → IsTree row bytes → IsTree other bytes → row ≡ other
 one_tree bytes row other a b = sym (row_is_of bytes row a.are.each a.spelling).0 ∙ (row_is_of bytes other b.are.each b.spelling).0
 
--- bytes are one object of a kind at the most
+-- bytes are at most one object of a kind
 pub one_object : (k : Kind) (bytes : List ℕ) (v w : ObjectValue) → IsObject v k bytes → IsObject w k bytes → v ≡ w
 one_object k bytes (BlobValue a) (BlobValue b) one two = ap (λ (x : List ℕ). BlobValue x) (sym one.1 ∙ two.1)
 one_object k bytes (BlobValue a) (TreeOf b) one two = let kinds = sym one.0 ∙ two.0 in let no_such : ⊥ = cc kinds in absurd no_such
@@ -52,7 +52,7 @@ no_object (fault.Tag why) k bytes (TreeOf a) is wrong = let kinds = sym is.0 ∙
 no_object (fault.Tag why) k bytes (CommitOf a) is wrong = let kinds = sym is.0 ∙ wrong.0 in let no_such : ⊥ = cc kinds in no_such
 no_object (fault.Tag why) k bytes (TagOf a) is wrong = no_tag why bytes a is.1 wrong.1
 
--- what is an object of the kind is read, and as this object
+-- what is an object of the kind is read as this object
 pub only_object : {O : Type 0} (view : O → ObjectValue) (k : Kind) (bytes : List ℕ) (r : Result O ObjectFault) (value : ObjectValue) → IfOk r (λ o. IsObject (view o) k bytes) → IfErr r (λ why. IsObjectFault why k bytes) → IsObject value k bytes → IsOkAnd r (λ o. view o ≡ value)
 only_object view k bytes (Ok o) value found exact is = one_object k bytes (view o) value found is
 only_object view k bytes (Err why) value found exact is = absurd (no_object why k bytes value is exact)

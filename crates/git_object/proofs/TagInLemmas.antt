@@ -30,9 +30,9 @@ use Rattle.git_object.specs.TagIn.{is_tag_name, is_right_tagger, is_tag, kind_or
 use Rattle.git_object.proofs.TagLemmas.{sound_tag, no_tagger, header_no_tagger, last_of, tag_right}
 use Rattle.git_object.proofs.WholeLemmas.{kind_back, no_tag}
 
--- ---- the parts of a right text
+-- ---- the parts of a valid text
 
--- the tagger, or what stands in its place
+-- the tagger, or the line in its place
 tagger_again : (t : Option IdentValue) (hs : List HeaderValue) → IsTagger t → AllByRecursion (IsHeader kind.Tag) hs → tagger_in (get_or (tagger_lines t ++ flat_map header_lines hs) 0 []) ≡ t
 tagger_again None [] is are = refl
 tagger_again None (h ∷ hs) is are =
@@ -47,7 +47,7 @@ behind_again (Some ident) lines = refl
 abbrev whole : List ℕ → Kind → List ℕ → Option IdentValue → List HeaderValue → Option (List ℕ) → TagValue
 whole object k name tagger headers message = record { object = object; kind = k; name = name; tagger = tagger; headers = headers; message = message }
 
--- a right tag is found in its lines
+-- a valid tag is found in its lines
 tag_again : (v : TagValue) → IsTagValue v → tag_from (tag_lines v) v.message ≡ v
 tag_again v is =
     let rest = tagger_lines v.tagger ++ flat_map header_lines v.headers in

@@ -1,4 +1,4 @@
--- The lines of a tag are valid lines, and where one is missing.
+-- The lines of a tag are valid lines, and the faults if one is missing.
 use Rattle.std.proofs.Common.{true, false, Bool, cond, ◌≡◌, ◌≢◌, ◌⊎◌, inl, inr, ℕ, ◌<◌, List, [], ◌∷◌, ◌++◌, length, take, drop, refl, sym, ap, subst, ◌∙◌, arith, rules, codes, Option, Some, None}
 use Rattle.std.specs.List.{AllByRecursion, flat_map}
 use Rattle.std.proofs.lemmas.List.{take-append-drop}
@@ -98,11 +98,11 @@ is_false false not = refl
 pub no_tagger : (text : List ℕ) → (Begins (codes "tagger ") text → ⊥) → is_tagger text ≡ false
 no_tagger text other = is_false (is_tagger text) (λ is. other (drop 7 text, sym (take-append-drop 7 text) ∙ ap (λ (t : List ℕ). t ++ drop 7 text) ((bytes_eq-Decides (take 7 text) (codes "tagger ")).0 is)))
 
--- a further header doesn't begin with the word
+-- a further header does not begin with the word
 pub header_no_tagger : (text : List ℕ) → IsHeaderLine kind.Tag text → Begins (codes "tagger ") text → ⊥
 header_no_tagger text h (rest, is) = further_stands kind.Tag NoHeader text h (record { word = codes "tagger"; rest = rest; own = inr (inr (inr refl)); begins = is })
 
--- ---- where a demanded line is lacking
+-- ---- a required line is missing
 
 pub object_fault : (why : HeaderFault) (text : List ℕ) → IsNoValue (codes "object ") IsNameText line.Name why text → IsFirstFault tag_grammar AtObject (tag_fault why) text
 object_fault why text wrong = fault_here tag_grammar AtObject (tag_fault why) text (value_broken tag_fault tag_grammar usual_tag why line.Name AtObject (codes "object ") text IsNameText wrong
@@ -159,13 +159,13 @@ further_within = record {
   form = λ p text. refl;
 }
 
--- right further headers where a tagger might stand
+-- valid further headers where a tagger might be
 pub right_at_tagger : (l : List ℕ) (lines : List (List ℕ)) (q : HeaderPlace) → AreRightLines (header_grammar kind.Tag) NoHeader (l ∷ lines) q → AreRightLines tag_grammar AtTagger (l ∷ lines) (Further q)
 right_at_tagger l lines q right =
     let next : place_after AtTagger l ≡ Further SomeHeader = ap (λ b. cond b (Further NoHeader) (Further SomeHeader)) (no_tagger l (header_no_tagger l right.0)) in
     (inr right.0, subst (λ t. AreRightLines tag_grammar t lines (Further q)) (sym next) (right_within tag_fault Further (header_grammar kind.Tag) tag_grammar further_within SomeHeader q lines right.1))
 
--- a fault of further headers, where no tagger stands
+-- a fault of further headers, if there is no tagger
 pub fault_at_tagger : (why : HeaderFault) (text : List ℕ) → ((x : List ℕ) → text ≢ codes "tagger " ++ x) → IsFirstFault (header_grammar kind.Tag) NoHeader why text → IsFirstFault tag_grammar AtTagger (tag_fault why) text
 fault_at_tagger why text fresh wrong = from wrong.lines wrong.place wrong.rest wrong.right wrong.parts wrong.broken
   where

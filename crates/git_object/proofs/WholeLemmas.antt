@@ -1,4 +1,4 @@
--- A tag is read in one way.
+-- A tag is read in one way only.
 use Rattle.std.proofs.Common.{◌≡◌, ◌≢◌, ℕ, List, [], ◌∷◌, ◌++◌, refl, sym, ap, ◌∙◌, codes, Option, Some, None, Result, Ok, Err}
 use Rattle.std.specs.Prelude.{IfOk, IfErr, IsOkAnd}
 use Rattle.std.specs.List.{AllByRecursion, flat_map}
@@ -51,7 +51,7 @@ pub read_name : (bytes rest after name : List ℕ) (lines : List (List ℕ)) →
 read_name bytes rest after name lines read is line =
     go_on tag_grammar AtObject bytes lines (tag_line name ∷ []) AtName AtTagger rest after read (record { value = name; spelling = refl; is = is }, refl) (one_line (tag_line name) after rest line.parts)
 
--- the place behind a tagger that may be missing
+-- the place after a tagger that may be missing
 abbrev pub behind : Option IdentValue → TagPlace
 behind None = AtTagger
 behind (Some ident) = Further NoHeader
@@ -61,7 +61,7 @@ read_tagger bytes rest after None lines read is parts = go_on tag_grammar AtObje
 read_tagger bytes rest after (Some ident) lines read is parts =
     go_on tag_grammar AtObject bytes lines (tagger_line ident ∷ []) AtTagger (Further NoHeader) rest after read (tagger_right ident [] (Further NoHeader) is refl) parts
 
--- a fault of further headers, behind a tagger or where it is missing
+-- a fault of further headers, after a tagger or without one
 pub headers_fault : (why : HeaderFault) (text : List ℕ) (t : Option IdentValue) → (t ≡ None → (x : List ℕ) → text ≢ codes "tagger " ++ x) → IsFirstFault (header_grammar kind.Tag) NoHeader why text → IsFirstFault tag_grammar (behind t) (tag_fault why) text
 headers_fault why text None fresh wrong = fault_at_tagger why text (fresh refl) wrong
 headers_fault why text (Some ident) fresh wrong = fault_within tag_fault Further (header_grammar kind.Tag) tag_grammar further_within NoHeader why text wrong
@@ -107,7 +107,7 @@ same_tagger (Some i) (Some j) hs ks is_a is_b are are_2 e = (ap (λ (t : IdentVa
 abbrev made : List ℕ → Kind → List ℕ → Option IdentValue → List HeaderValue → Option (List ℕ) → TagValue
 made object k name tagger headers message = record { object = object; kind = k; name = name; tagger = tagger; headers = headers; message = message }
 
--- bytes are one tag at the most
+-- bytes are at most one tag
 pub one_tag : (bytes : List ℕ) (v w : TagValue) → IsTag v bytes → IsTag w bytes → v ≡ w
 one_tag bytes v w one two =
     let lines = same_lines tag_grammar sound_tag AtObject (last_of v.tagger v.headers) (last_of w.tagger w.headers) (tag_lines v) (tag_lines w) (ending v.message) (ending w.message) (tag_right v one.right) (tag_right w two.right) (v.message, refl) (w.message, refl) (sym one.spelling ∙ two.spelling) in
@@ -136,7 +136,7 @@ no_tag why bytes v is wrong =
 pub one_tag_fault : (bytes : List ℕ) (f h : TagFault) → IsTagFault f bytes → IsTagFault h bytes → f ≡ h
 one_tag_fault bytes f h one two = one_fault tag_grammar sound_tag AtObject f h bytes one two
 
--- what is a tag is read, and as this tag
+-- what is a tag is read as this tag
 pub only_one : {T : Type 0} (view : T → TagValue) (bytes : List ℕ) (r : Result T TagFault) (value : TagValue) → IfOk r (λ t. IsTag (view t) bytes) → IfErr r (λ why. IsTagFault why bytes) → IsTag value bytes → IsOkAnd r (λ t. view t ≡ value)
 only_one view bytes (Ok t) value found exact is = one_tag bytes (view t) value found is
 only_one view bytes (Err why) value found exact is = absurd (no_tag why bytes value is exact)

@@ -78,7 +78,7 @@ form_fault AtName text = fault.HeaderLine
 form_fault AtTagger text = if is_tagger text then fault.Ident else fault.HeaderLine
 form_fault (Further place) text = fault.HeaderLine
 
--- what may stand in a tag's header
+-- which lines are allowed in a tag's header
 abbrev pub tag_grammar : Grammar TagPlace TagFault
 tag_grammar = record {
   Stands = MayStand;

@@ -12,7 +12,7 @@ use Rattle.git_object.specs.declared.object.ObjectFault.TheVariants as fault
 use Rattle.git_object.specs.Tag.{TagValue, IsTag}
 use Rattle.git_object.specs.Fault.{IsTagFault}
 
--- an object, without where it is in memory
+-- an object as a value, without its address in memory
 pub data ObjectValue : Type 0 where
   BlobValue : List ℕ → ObjectValue
   TreeOf : List Entry → ObjectValue

@@ -11,7 +11,7 @@ use Rattle.git_header.specs.Ident.{IdentValue, IsIdentValue}
 use Rattle.git_name.specs.Text.{ended}
 use Rattle.git_header.specs.Line.{ending}
 
--- a tag, without where it is in memory; no message and an empty one are two values
+-- a tag, without its address in memory; no message and an empty one are two values
 pub record TagValue : Type 0 where
   pub object : List ℕ
   pub kind : Kind
@@ -30,14 +30,14 @@ abbrev pub IsTagger : Option IdentValue → Type 0
 IsTagger None = Unit {0}
 IsTagger (Some ident) = IsIdentValue ident
 
--- what may stand in a tag
+-- the parts of a valid tag
 pub record IsTagValue (tag : TagValue) : Type 0 where
   pub object : IsName tag.object
   pub name : IsTagName tag.name
   pub tagger : IsTagger tag.tagger
   pub headers : AllByRecursion (IsHeader Tag) tag.headers
 
--- the kind that the object must have
+-- the line of the kind that the object must have
 abbrev pub type_line : Kind → List ℕ
 type_line kind = codes "type " ++ type_word kind
 

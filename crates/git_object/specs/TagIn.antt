@@ -26,7 +26,7 @@ is_right_tagger (Some ident) = is_ident ident
 abbrev pub is_tag : TagValue → Bool
 is_tag tag = is_name tag.object && is_tag_name tag.name && is_right_tagger tag.tagger && list_all (is_header Tag) tag.headers
 
--- the kind that a word names, if it names one
+-- the kind that a word names, or `Tag` if it names none
 abbrev pub kind_or_tag : List ℕ → Kind
 kind_or_tag word =
     if bytes_eq word (codes "blob") then Blob else
@@ -42,7 +42,7 @@ abbrev pub behind_tagger : Option IdentValue → List (List ℕ) → List (List 
 behind_tagger None lines = lines
 behind_tagger (Some ident) lines = drop 1 lines
 
--- the parts that lines and a message are, if they are those of a tag
+-- the tag that lines and a message make, if they make one
 abbrev pub tag_from : List (List ℕ) → Option (List ℕ) → TagValue
 tag_from lines message =
     let tagger = tagger_in (nth_line 3 lines) in

@@ -1,4 +1,4 @@
--- The value of a borrowed tagger, without where it is in memory.
+-- The value of a borrowed tagger, without its address.
 use Rattle.std.specs.Prelude.{Option, None, Some}
 use Rattle.git_header.specs.declared.ident.Ident.{Ident}
 use Rattle.git_header.specs.Ident.{IdentValue}

@@ -6,27 +6,27 @@ use thiserror::Error;
 /// Why bytes are not a tag: the fault of the first faulty line.
 #[derive(Clone, Copy, Debug, PartialEq, Eq, Error)]
 pub enum TagFault {
-    /// A line that may not stand there, or headers that end too early.
-    #[error("a header line stands out of order, or is missing")]
+    /// A line that is not allowed at its place, or a header that ends too early.
+    #[error("a header line is out of order or missing")]
     HeaderOrder,
-    /// There is no object name where one is required.
-    #[error("a header line holds no object name")]
+    /// The line requires an object name, but has none.
+    #[error("a header line has no object name")]
     Name,
-    /// There is no ident on the tagger's line.
-    #[error("a header line holds no ident")]
+    /// The tagger's line has no ident.
+    #[error("a header line has no ident")]
     Ident,
     /// A line without a line feed, a further header of a wrong form, or an empty tag name.
-    #[error("a header line has a wrong form")]
+    #[error("a header line is malformed")]
     HeaderLine,
     /// A zero byte in a header line.
-    #[error("a header line holds a zero byte")]
+    #[error("a header line contains a NUL byte")]
     ZeroByte,
     /// A type that is not one of the four words.
-    #[error("a header line holds no type")]
+    #[error("a header line has no type")]
     TypeWord,
 }
 
-// The fault of a line that tags and commits share.
+// Converts the faults that tags share with commits.
 impl From<HeaderFault> for TagFault {
     ghost use Rattle.git_object.specs.Fault.{tag_fault};
 

@@ -25,14 +25,13 @@ pub fn one_object()
     ensures none { (kind : Kind) (bytes : List ℕ) (v : ObjectValue) (f : ObjectFault) → IsObject v kind bytes → IsObjectFault f kind bytes → ⊥ }
 {}
 
-/// A law, with no code to run: the tests that models compute by find exactly the tag that bytes are.
+/// A law, with no code to run: the tests by which models compute find exactly the tag that bytes are.
 pub fn tests_find_the_tag()
     ensures found { (bytes : List ℕ) (tag : TagValue) → tag_in bytes ≡ Some tag → IsTag tag bytes }
     ensures only { (bytes : List ℕ) (tag : TagValue) → IsTag tag bytes → tag_in bytes ≡ Some tag }
 {}
 
-/// A law, with no code to run: the tests that models compute by find exactly the object of a kind that
-/// bytes are.
+/// A law, with no code to run: the tests by which models compute find exactly the object of a kind that bytes are.
 pub fn tests_find_the_object()
     ensures found { (kind : Kind) (bytes : List ℕ) (object : ObjectValue) → object_in kind bytes ≡ Some object → IsObject object kind bytes }
     ensures only { (kind : Kind) (bytes : List ℕ) (object : ObjectValue) → IsObject object kind bytes → object_in kind bytes ≡ Some object }

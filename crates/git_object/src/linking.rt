@@ -65,8 +65,8 @@ fn links_of_tag<'a>(tag: &Tag<'a>) -> Links<'a>
     }
 }
 
-/// The links of the object: a tree's are its entries except gitlinks, a commit's its tree and then its
-/// parents, a tag's its object. It allocates nothing.
+/// Returns the links of the object: a tree's are its entries except gitlinks, a commit's its tree and then
+/// its parents, a tag's its object. It allocates nothing.
 pub fn links<'a>(object: &Object<'a>) -> Links<'a>
     ensures { links_left result ≡ links_of (object_of object.now) }
 {

@@ -21,7 +21,7 @@ pub enum ObjectFault {
     Tag(TagFault),
 }
 
-/// What the bytes of an object are, by its kind.
+/// The parts of an object, by its kind.
 #[derive(Debug, Drop)]
 pub(crate) enum Form<'a> {
     Blob(&'a [u8]),
@@ -30,7 +30,7 @@ pub(crate) enum Form<'a> {
     Tag(Tag<'a>),
 }
 
-/// An object, borrowed from its bytes. No value of this type has bytes that its kind refuses.
+/// An object, borrowed from its bytes, which are always valid for its kind.
 #[derive(Debug, Drop)]
 pub struct Object<'a> {
     pub(crate) form: Form<'a>,
@@ -43,7 +43,7 @@ impl<'a> Object<'a> {
     ghost use Rattle.git_object.specs.Object.{ObjectValue, IsObject, IsObjectFault};
     ghost use Rattle.git_object.specs.ObjectIn.{object_in, links_in, links_or_none};
 
-    // The object, by its kind.
+    // Reads the parts of the object, by its kind.
     fn parts_of(kind: Kind, bytes: &'a [u8]) -> Result<Object<'a>, ObjectFault>
         ensures found { IfOk result (λ object. IsObject (object_of object) kind bytes.now) }
         ensures exact { IfErr result (λ why. IsObjectFault why kind bytes.now) }
@@ -73,11 +73,11 @@ impl<'a> Object<'a> {
         }
     }
 
-    /// The object of this kind that the bytes are. It allocates nothing.
+    /// Reads an object of this kind from its bytes. It allocates nothing.
     pub fn read(kind: Kind, bytes: &'a [u8]) -> Result<Object<'a>, ObjectFault>
         // What is read is an object of these parts.
         ensures found { IfOk result (λ object. IsObject (object_of object) kind bytes.now) }
-        // What is an object of the kind is read.
+        // Every object of the kind is read.
         ensures only { (value : ObjectValue) → IsObject value kind bytes.now → IsOkAnd result (λ object. object_of object ≡ value) }
         // The value that models compute, with its links.
         ensures value { option_map object_of (result_ok result) ≡ object_in kind bytes.now }

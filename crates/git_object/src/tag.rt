@@ -28,7 +28,7 @@ impl<'a> Tag<'a> {
     ghost use Rattle.git_header.specs.Left.{headers_left};
     ghost use Rattle.git_object.specs.View.{tagger_of};
 
-    // The parts of a tag, each read in turn.
+    // Reads the parts of a tag in turn.
     fn parts_of(bytes: &'a [u8]) -> Result<Tag<'a>, TagFault>
         ensures found { IfOk result (λ tag. IsTag (tag_of tag) bytes.now) }
         ensures exact { IfErr result (λ why. IsTagFault why bytes.now) }
@@ -51,11 +51,11 @@ impl<'a> Tag<'a> {
         })
     }
 
-    /// The tag that the bytes are. It allocates nothing.
+    /// Reads a tag from its one spelling. It allocates nothing.
     pub fn read(bytes: &'a [u8]) -> Result<Tag<'a>, TagFault>
         // What is read is a tag of these parts.
         ensures found { IfOk result (λ tag. IsTag (tag_of tag) bytes.now) }
-        // What is a tag is read.
+        // Every tag is read.
         ensures only { (value : TagValue) → IsTag value bytes.now → IsOkAnd result (λ tag. tag_of tag ≡ value) }
         // The value that models compute.
         ensures value { option_map tag_of (result_ok result) ≡ tag_in bytes.now }
@@ -65,14 +65,14 @@ impl<'a> Tag<'a> {
         Tag::parts_of(bytes)
     }
 
-    /// The name of the object that is tagged.
+    /// The name of the tagged object.
     pub fn object(&self) -> Name
         ensures { result ≡ (tag_of self.now).object }
     {
         self.object
     }
 
-    /// The kind that this object must have.
+    /// The kind that the tagged object must have.
     pub fn kind(&self) -> Kind
         ensures { result ≡ (tag_of self.now).kind }
     {
@@ -100,7 +100,7 @@ impl<'a> Tag<'a> {
         self.headers
     }
 
-    /// The message. None and an empty one are two tags.
+    /// The message. `None` is no message, which differs from an empty one.
     pub fn message(&self) -> Option<&'a [u8]>
         ensures { message_of result ≡ (tag_of self.now).message }
     {

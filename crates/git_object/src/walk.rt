@@ -8,7 +8,7 @@ use git_commit::Parents;
 use git_name::Kind;
 use git_tree::Entries;
 
-/// The links of an object, in order, each found when it is asked for.
+/// The links of an object, in order, each found on demand.
 #[derive(Debug, Drop)]
 pub struct Links<'a> {
     pub(crate) first: Option<Link>,
@@ -30,7 +30,7 @@ fn next_of_tree(entries: &mut Entries<'_>) -> Option<Link>
     None
 }
 
-// The same, if there are entries.
+// The next link of the entries, if there are any.
 fn next_of_entries(entries: &mut Option<Entries<'_>>) -> Option<Link>
     ensures some { IfSome result (λ link. entries_left entries.old ≡ link ∷ entries_left entries.new) }
     ensures none { IfNone result ((entries_left entries.old ≡ []) × (entries_left entries.new ≡ [])) }

@@ -1,4 +1,4 @@
--- Names that are written out, and the first rule that each breaks.
+-- Example names, and the first rule that each breaks.
 use Rattle.std.proofs.Common.{◌≡◌, ◌∷◌, [], None, Some, refl}
 use Rattle.std.specs.Prelude.{codes}
 use Rattle.git_refname.specs.declared.rule.Rule.TheVariants.{Component, OneLevel, TwoDots, Slashes, AtBrace, OutsideRefs}

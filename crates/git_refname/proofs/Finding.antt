@@ -15,7 +15,7 @@ found_at p xs i d inside none passes =
     ap (find p) (sym (take-append-drop i xs)) ∙ find-append p (take i xs) (drop i xs) ∙ ap (λ o. option_or o (find p (drop i xs))) none
     ∙ ap (find p) (drop_more xs i d inside) ∙ ap (λ b. cond b (Some (get_or xs i d)) (find p (drop (i + 1) xs))) passes
 
--- nor does this one
+-- no earlier element passes, nor does this one
 pub none_more : {X : Type 0} (p : X → Bool) (xs : List X) (i : ℕ) (d : X) → i < length xs → find p (take i xs) ≡ None → p (get_or xs i d) ≡ false → find p (take (i + 1) xs) ≡ None
 none_more p xs i d inside none fails =
     ap (find p) (take_more xs i d inside) ∙ find-append p (take i xs) (get_or xs i d ∷ []) ∙ ap (λ o. option_or o (find p (get_or xs i d ∷ []))) none
@@ -25,12 +25,12 @@ not_found : {X : Type 0} (b : Bool) (x : X) (o : Option X) → cond b (Some x) o
 not_found true x o is = absurd (cc)
 not_found false x o is = (refl, is)
 
--- where none passes, this one doesn't
+-- if no element passes, this one fails
 pub fails_at : {X : Type 0} (p : X → Bool) (xs : List X) (x : X) (ys : List X) → find p (xs ++ x ∷ ys) ≡ None → p x ≡ false
 fails_at p [] x ys none = (not_found (p x) x (find p ys) none).0
 fails_at p (z ∷ xs) x ys none = fails_at p xs x ys (not_found (p z) z (find p (xs ++ x ∷ ys)) none).1
 
--- a name is no longer than it may be
+-- a name has at most the greatest length
 pub name_short : (name : List ℕ) → least_broken_rule name ≡ None → length name ≤ MAX_REF_NAME
 unfolding least_broken_rule
 name_short name is =

@@ -1,4 +1,4 @@
--- What a text contains that is longer by a byte.
+-- What a text contains after one more byte.
 use Rattle.std.proofs.Common.{◌≡◌, ◌≢◌, ℕ, suc, ◌<◌, ◌≤◌, ◌+◌, ◌-◌, ◌==◌, Bool, true, false, not, ◌||◌, List, [], ◌∷◌, ◌++◌, ◌⊎◌, inl, inr, Option, None, Some, nat_eq, refl, sym, ap, ◌∙◌, length, take, drop, length-take, length-drop, length-append, append_assoc, arith}
 use Rattle.std.specs.Cmp.Lexicographic.{pointwise, unequal}
 use Rattle.std.specs.List.{last_or, list_any}
@@ -12,7 +12,7 @@ use Rattle.std.proofs.Math.Bool.{or-false}
 use Rattle.git_refname.specs.Marks.{is_plain}
 use Rattle.git_refname.specs.Rule.{begins, ends, holds, is_pattern, is_unprintable}
 
--- a text that is shorter than a part neither begins nor ends in it, nor holds it
+-- a text shorter than a part neither begins nor ends with it, nor contains it
 begins_short : (part text : List ℕ) → length text < length part → begins part text ≡ false
 begins_short part text short =
     unequal nat_eq part (take (length part) text) (λ (same : length part ≡ length (take (length part) text)). let is = length-take (length part) text in absurd (omega arith))
@@ -25,7 +25,7 @@ holds_short : (part text : List ℕ) → length text < length part → holds par
 holds_short part [] short = begins_short part [] short
 holds_short part (b ∷ bs) short = rw (begins_short part (b ∷ bs) short) (holds_short part bs (omega arith))
 
--- a text that isn't longer than a part begins in it where it ends in it
+-- a text no longer than a part begins with it exactly if it ends with it
 begins_ends : (part text : List ℕ) → length text ≤ length part → begins part text ≡ ends part text
 begins_ends part text short =
     let none : length text - length part ≡ 0 = omega arith in
@@ -48,7 +48,7 @@ regrouped false true h e f first last = absurd (cc)
 no_more : (a b c h e : Bool) → b ≡ false → h ≡ false → e ≡ false → c ≡ a → (a || (h || e)) ≡ ((b || h) || c)
 no_more a b c h e none nowhere not_ends same = rw (none, nowhere, not_ends, same) (or-false a)
 
--- such a text holds a part where it held it before, or ends in it
+-- with one more byte, a text contains a part if it did before or now ends with it
 pub holds_more : (part xs : List ℕ) (b : ℕ) → 1 ≤ length part → holds part (xs ++ b ∷ []) ≡ (holds part xs || ends part (xs ++ b ∷ []))
 holds_more part [] b some =
     rw (begins_short part [] some, begins_ends part (b ∷ []) some) (or-false (ends part (b ∷ [])))
@@ -67,12 +67,12 @@ holds_more part (x ∷ xs) b some = by_length (holds_more part xs b some) (cases
         rw before (regrouped (begins part (x ∷ xs ++ b ∷ [])) (begins part (x ∷ xs)) (holds part xs) (ends part (xs ++ b ∷ [])) (ends part (x ∷ xs ++ b ∷ []))
         (begins_longer part (x ∷ xs) (b ∷ []) long) (sym (ends_longer part x (xs ++ b ∷ []) (omega (arith, longer)))))
 
--- what was met of a part before, or is met at the end, is what the longer text holds
+-- the longer text contains a part if it was met before or is met at the end
 pub met : (part before front : List ℕ) (b : ℕ) (was at_end : Bool) → 1 ≤ length part → was ≡ holds part before → at_end ≡ ends part front → front ≡ before ++ b ∷ [] → (was || at_end) ≡ holds part front
 met part before front b was at_end some was_is at_is longer =
     (λ i. was_is i || (at_is ∙ ap (ends part) longer) i) ∙ sym (holds_more part before b some) ∙ sym (ap (holds part) longer)
 
--- the same of a byte that passes a test
+-- the longer text has a byte that passes a test if one was met before or the last one passes
 pub met_byte : (test : ℕ → Bool) (before front : List ℕ) (b : ℕ) (was last : Bool) → was ≡ list_any test before → last ≡ test b → front ≡ before ++ b ∷ [] → (was || last) ≡ list_any test front
 met_byte test before front b was last was_is last_is longer =
     (λ i. was_is i || (last_is ∙ sym (or-false (test b))) i) ∙ sym (list_any-append test before (b ∷ [])) ∙ sym (ap (list_any test) longer)
@@ -81,7 +81,7 @@ last_of_append : (o : Option ℕ) (xs : List ℕ) (x : ℕ) → last_or o (xs ++
 last_of_append o [] x = refl
 last_of_append o (a ∷ xs) x = last_of_append (Some a) xs x
 
--- a text does not end in a part that has another last byte
+-- a text does not end with a part whose last byte is another
 ends_otherwise : (part xs : List ℕ) (x b : ℕ) → b ≢ x → ends (part ++ x ∷ []) (xs ++ b ∷ []) ≡ false
 ends_otherwise part xs x b other = by_case (ends (part ++ x ∷ []) (xs ++ b ∷ [])) refl
   where
@@ -95,17 +95,17 @@ ends_otherwise part xs x b other = by_case (ends (part ++ x ∷ []) (xs ++ b ∷
         let last : Some b ≡ Some x = sym (last_of_append None xs b) ∙ ap (last_or None) (parts ∙ sym (append_assoc front part (x ∷ []))) ∙ last_of_append None (front ++ part) x in
         absurd (other (ap (λ o. unwrap_or o 0) last))
 
--- so with such a byte more it holds the part where it held it before
+-- so after such a byte it contains the part exactly if it did before
 pub unmet : (part before front : List ℕ) (x b : ℕ) (was : Bool) → b ≢ x → was ≡ holds (part ++ x ∷ []) before → front ≡ before ++ b ∷ [] → was ≡ holds (part ++ x ∷ []) front
 unmet part before front x b was other was_is longer =
     let some : 1 ≤ length (part ++ x ∷ []) = rw (length-append part (x ∷ [])) (omega arith) in
     sym (or-false was) ∙ met (part ++ x ∷ []) before front b was false some was_is (sym (ap (ends (part ++ x ∷ [])) longer ∙ ends_otherwise part before x b other)) longer
 
--- nor does it hold a byte that passes a test, if this one fails it
+-- after a byte that fails a test, it has one that passes exactly if it did before
 pub unmet_byte : (test : ℕ → Bool) (before front : List ℕ) (b : ℕ) (was : Bool) → test b ≡ false → was ≡ list_any test before → front ≡ before ++ b ∷ [] → was ≡ list_any test front
 unmet_byte test before front b was fails was_is longer = sym (or-false was) ∙ met_byte test before front b was false was_is (sym fails) longer
 
--- what a byte is not with which nothing ends that breaks a rule
+-- what a byte with which no mark ends is not
 pub record IsOther (b : ℕ) : Type 0 where
   pub printed : is_unprintable b ≡ false
   pub plain : is_pattern b ≡ false

@@ -1,4 +1,4 @@
--- What a text contains of all that breaks a rule wherever it occurs.
+-- The marks of a text: all that decides a rule wherever it occurs.
 use Rattle.std.specs.Prelude.{ℕ, ◌==◌, ◌||◌, Bool, not, List, codes}
 use Rattle.std.specs.List.{list_any}
 use Rattle.git_refname.specs.declared.marks.Marks.{Marks}
@@ -17,6 +17,6 @@ marks_of text = record {
   backslash = holds (codes "\\") text;
 }
 
--- a byte with which nothing ends that breaks a rule: none of patterns, none that is not printed, and no `.`, `/`, backslash or `{`
+-- a byte with which no mark ends: printable, no byte of patterns, and none of `.`, `/`, backslash and `{`
 abbrev pub is_plain : ℕ → Bool
 is_plain b = not (is_unprintable b || is_pattern b || (b == 46) || (b == 47) || (b == 92) || (b == 123))

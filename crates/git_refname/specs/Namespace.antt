@@ -2,10 +2,10 @@
 use Rattle.std.specs.Prelude.{ℕ, List, ◌++◌, codes}
 use Rattle.std.specs.List.{flat_map}
 
--- a namespace by its one name
+-- a namespace with one name
 abbrev pub namespace : List ℕ → List ℕ
 namespace name = codes "refs/namespaces/" ++ name ++ codes "/"
 
--- a namespace by the names from the outermost to the innermost
+-- a nested namespace, by its names from the outermost to the innermost
 abbrev pub expanded : List (List ℕ) → List ℕ
 expanded names = flat_map namespace names

@@ -1,4 +1,4 @@
--- The rules of reference names: git-check-ref-format(1), and two own ones. Each applies to the whole name.
+-- The rules of reference names: git-check-ref-format(1), and two more (own). Each applies to the whole name.
 use Rattle.std.specs.Prelude.{◌≡◌, ℕ, ◌==◌, ◌||◌, Bool, not, nat_lt, List, [], ◌∷◌, Option, None, length, codes}
 use Rattle.std.specs.List.{starts_with, ends_with, list_any, find}
 use Rattle.std.specs.Prelude.{nat_eq}
@@ -30,7 +30,7 @@ is_pattern b = (b == 63) || (b == 42) || (b == 91)
 
 -- the name breaks the rule
 abbrev pub breaks : List ℕ → Rule → Bool
--- a component, which slashes separate from others, begins with `.` or ends in `.lock`
+-- a component (slashes separate components) begins with `.` or ends in `.lock`
 breaks name Component = begins (codes ".") name || holds (codes "/.") name || ends (codes ".lock") name || holds (codes ".lock/") name
 breaks name OneLevel = not (holds (codes "/") name)
 breaks name TwoDots = holds (codes "..") name

@@ -39,7 +39,7 @@ pub(crate) fn check(text: &[u8]) -> Result<(), Rule>
     Ok(())
 }
 
-// What the text contains of all that breaks a rule wherever it occurs.
+// The marks in the text: all that decides a rule wherever it occurs.
 fn marks_in(text: &[u8]) -> Marks
     ensures { result ≡ marks_of text.now }
 {

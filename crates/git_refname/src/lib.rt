@@ -1,4 +1,4 @@
-//! Names of references: the rules of git-check-ref-format(1) and two own ones, and the namespaces of
+//! Names of references: the rules of git-check-ref-format(1) and two more (own), and the namespaces of
 //! gitnamespaces(7). A bad name is reported by the first rule that it breaks, and a `RefName` breaks
 //! none.
 #![tactic(auto)]

@@ -2,7 +2,7 @@ ghost use Rattle.std.specs.Prelude.{◌≡◌, ◌++◌, ◌∷◌, [], List, �
 ghost use Rattle.git_refname.specs.Marks.{is_plain, marks_of};
 ghost use Rattle.git_refname.specs.Rule.{is_unprintable, is_pattern};
 
-// What the beginning of a name contains of all that breaks a rule wherever it occurs.
+// The marks in the beginning of a name: all that decides a rule wherever it occurs.
 #[derive(Clone, Copy, Debug)]
 pub(crate) struct Marks {
     // `/.`
@@ -26,7 +26,7 @@ pub(crate) struct Marks {
 }
 
 impl Marks {
-    // The marks of an empty beginning.
+    // The marks of the empty text.
     pub(crate) fn new() -> Marks
         ensures { result ≡ marks_of [] }
     {
@@ -43,7 +43,7 @@ impl Marks {
         }
     }
 
-    // The marks of a beginning that is longer by this last byte.
+    // The marks of `front`, which is longer by this last byte.
     pub(crate) fn with(self, front: &[u8], byte: u8) -> Marks
         ensures { (before : List ℕ) → self ≡ marks_of before → front.now ≡ before ++ byte ∷ [] → result ≡ marks_of front.now }
     {
@@ -64,7 +64,7 @@ impl Marks {
     }
 }
 
-// Whether nothing that breaks a rule ends with the byte.
+// Whether no mark ends with the byte.
 fn is_plain(byte: u8) -> bool
     ensures { result ≡ is_plain byte }
 {

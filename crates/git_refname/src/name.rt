@@ -11,7 +11,7 @@ use std::alloc::AllocError;
 use std::cmp::Ordering;
 use std::marker::Model;
 
-/// The most bytes of a reference's name (own).
+/// The greatest length of a reference's name, in bytes (own).
 pub const MAX_REF_NAME: usize = 255;
 
 /// The name of a reference, which breaks no rule. It is stored in place and allocates nothing. Names
@@ -38,8 +38,8 @@ impl Model for RefName {
 }
 
 impl RefName {
-    /// Reports the first rule that the text breaks, if it is not a name. It allocates nothing and reads the
-    /// text once.
+    /// Checks whether the text is a name, and returns the first rule that it breaks if not. It allocates
+    /// nothing and reads the text once.
     pub fn check(text: &[u8]) -> Result<(), Rule>
         ensures ok { OnOk result (IsRefName text.now) }
         ensures broken { IfErr result (λ rule. least_broken_rule text.now ≡ Some rule) }
@@ -47,7 +47,7 @@ impl RefName {
         check(text)
     }
 
-    /// The name of these bytes, if they are a valid one. It allocates nothing.
+    /// Reads a name from its bytes. It allocates nothing.
     pub fn read(text: &[u8]) -> Result<RefName, Rule>
         ensures found { IfOk result (λ name. (name ≡ text.now) × IsRefName text.now) }
         ensures broken { IfErr result (λ rule. least_broken_rule text.now ≡ Some rule) }

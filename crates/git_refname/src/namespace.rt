@@ -3,7 +3,7 @@ ghost use Rattle.git_refname.specs.Namespace.{expanded, namespace};
 
 use std::alloc::{AllocError, Global};
 
-/// The prefix of every reference of the namespace `TENANT/REPOSITORY` (gitnamespaces(7)).
+/// Returns the prefix of every reference in the namespace `TENANT/REPOSITORY` (gitnamespaces(7)).
 pub fn expand(alloc: Global, tenant: &[u8], repository: &[u8]) -> Result<Vec<u8>, AllocError>
     ensures { IfOk result (λ prefix. prefix.items ≡ expanded (tenant.now ∷ repository.now ∷ [])) }
 {

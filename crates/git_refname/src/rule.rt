@@ -1,7 +1,7 @@
 use thiserror::Error;
 
-/// A rule of reference names, in the order in which they are judged (git-check-ref-format(1); the
-/// last two are own).
+/// A rule of reference names. They are checked in this order (git-check-ref-format(1); the last two
+/// are own).
 #[derive(Clone, Copy, Debug, PartialEq, Eq, Error)]
 pub enum Rule {
     #[error("a component begins with `.` or ends in `.lock`")]

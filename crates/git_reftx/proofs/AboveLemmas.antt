@@ -8,7 +8,7 @@ use Rattle.std.proofs.lemmas.Slice.Eq.{starts_is}
 use Rattle.git_reftx.specs.Transaction.{stands_above}
 use Rattle.git_reftx.proofs.RefusalLemmas.{decided}
 
--- what stands behind the `/`
+-- what follows the `/`
 pub above_true : (upper lower : List ℕ) → stands_above upper lower ≡ true → (rest : List ℕ) × (lower ≡ upper ++ 47 ∷ rest)
 above_true upper lower is =
     let front = upper ++ 47 ∷ [] in
@@ -25,7 +25,7 @@ never false not_so = refl
 pub not_above : (upper lower : List ℕ) → ((rest : List ℕ) → lower ≢ upper ++ rest) → false ≡ stands_above upper lower
 not_above upper lower apart = never (stands_above upper lower) (λ is. let parts = above_true upper lower is in apart (47 ∷ parts.0) parts.1)
 
--- a `/` begins what stands behind the upper name
+-- a `/` begins what follows the upper name
 pub above_rest : (upper lower rest : List ℕ) (slash : Bool) → lower ≡ upper ++ rest → slash ≡ starts_with nat_eq rest (47 ∷ []) → slash ≡ stands_above upper lower
 above_rest upper lower rest slash is slash_is =
     let test = starts_is Decides-eqb rest (47 ∷ []) slash slash_is in

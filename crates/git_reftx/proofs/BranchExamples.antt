@@ -1,4 +1,4 @@
--- Names that are written out, and the branches that they name.
+-- Example names, and the branches that they name.
 use Rattle.std.proofs.Common.{◌≡◌, None, Some, refl}
 use Rattle.std.specs.Prelude.{codes}
 use Rattle.git_refname.specs.Rule.{least_broken_rule}
@@ -16,12 +16,12 @@ pub head_is_no_branch : branch_in (codes "HEAD") ≡ None
 unfolding least_broken_rule
 head_is_no_branch = refl
 
--- a name that breaks a rule is none, whatever it begins with
+-- a name that breaks a rule is no branch, whatever it begins with
 pub two_dots_are_in_no_branch : branch_in (codes "refs/heads/a..b") ≡ None
 unfolding least_broken_rule
 two_dots_are_in_no_branch = refl
 
--- nothing stands behind the `/`
+-- nothing follows the `/`
 pub a_folder_is_no_branch : branch_in (codes "refs/heads/") ≡ None
 unfolding least_broken_rule
 a_folder_is_no_branch = refl

@@ -22,7 +22,7 @@ use Rattle.git_reftx.proofs.OrderLemmas.{front_before}
 pub above_before : (u l : List ℕ) → stands_above u l ≡ true → Before u l
 above_before u l above = (let parts = above_true u l above in subst (λ n. Before u n) (sym parts.1) (front_before u 47 parts.0))
 
--- where a `/` stands behind a front that is a name
+-- a `/` follows a front that is a name
 pub record StandsAt (met : List (List ℕ)) (name upper : List ℕ) : Type 0 where
   pub place : ℕ
   pub short : place < length name
@@ -46,7 +46,7 @@ shorter_before j k name less fits =
     let more = drop_more (take k name) j 0 (omega (arith, long)) in
     subst (Before (take j name)) ((λ i. sym first i ++ sym more i) ∙ parts) (front_before (take j name) _ _)
 
--- the first `/` behind a front that is there shows the least name above this one
+-- the first `/` after a front that is a name shows the least name above this one
 pub first_front : (names : List (List ℕ)) (name : List ℕ) (k : ℕ) → k < length name → get_or name k 0 ≡ 47 → In (take k name) names → ((j : ℕ) → j < k → get_or name j 0 ≡ 47 → In (take j name) names → ⊥)
     → IsFrontAbove names name (take k name)
 first_front names name k short slash inside none =
@@ -85,7 +85,7 @@ lesser_is least old front is not_above = subst (λ o. IsLesser o front old) (sym
 pub lesser_new : (least : Option (List ℕ)) (old front : List ℕ) → least ≡ Some old → name_cmp old front ≡ Greater → IsLesser least front front
 lesser_new least old front is above = subst (λ o. IsLesser o front front) (sym is) (inr (refl, inr (name_total.antisymm front old ∙ ap ordering_reverse above)))
 
--- and of two that may not be there
+-- and of two that may be missing
 pub lesser_some : (least : Option (List ℕ)) (u w : List ℕ) → IsLesser least u w → IsLesserOf least (Some u) (Some w)
 lesser_some None u w is = ap (λ n. Some n) is
 lesser_some (Some v) u w (inl (is, bound)) = inl (ap (λ n. Some n) is, bound)
@@ -121,7 +121,7 @@ near_either names P Q R least upper now apart first second is = record {
       (λ q. bounds_second least upper now u is (second.bound u l upper_in lower_in above (inr q))) (apart l r)) near;
 }
 
--- what stands above another is a name of the references
+-- what is above another is a name of the references
 pub upper_named : (references : References) (u : List ℕ) → AreRefNames references → least_upper (map.keys references) ≡ Some u → IsRefName u
 upper_named references u named is =
     let inside = find_inside (λ upper. list_any (stands_above upper) (map.keys references)) (map.keys references) u is in

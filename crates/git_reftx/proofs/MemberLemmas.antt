@@ -30,7 +30,7 @@ all_in k [] all p inside = absurd inside
 all_in k (x ∷ xs) all p (inl is) = subst (λ y. Before k y) (sym is) all.0
 all_in k (x ∷ xs) all p (inr later) = all_in k xs all.1 p later
 
--- the first of an ordered list stands before the others
+-- the first of an ordered list comes before the others
 pub first_before : (k : List ℕ) (ks : List (List ℕ)) → IsStrictlySortedBy name_cmp (k ∷ ks) → (p : List ℕ) → In p ks → Before k p
 first_before k ks sorted = all_in k ks (sorted_head name_cmp k ks sorted)
 

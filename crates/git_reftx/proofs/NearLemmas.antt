@@ -28,7 +28,7 @@ use Rattle.git_reftx.proofs.OrderLemmas.{front_before, between}
 use Rattle.shared_map.proofs.RiseLemmas.{less_of}
 use Rattle.git_reftx.proofs.PushLemmas.{apart, has_key, key_has, keys_ascend}
 
--- a command more
+-- one more command
 of_more : (commands : List Command) (x : Command) (q : List ℕ) → AreOf (commands ++ x ∷ []) q → AreOf commands q ⊎ (x.reference ≡ q)
 of_more [] x q (inl is) = inr is
 of_more [] x q (inr none) = absurd none
@@ -44,7 +44,7 @@ near_more names commands i x least upper now inside is so_far here lesser =
 pub near_none : (names : List (List ℕ)) (least : Option (List ℕ)) → least ≡ None → IsLeastNear names (AreOf []) least
 near_none names least none = record { found = λ u is. absurd (cc (sym none ∙ is)); bound = λ u l upper lower above near. ⊎_elim (λ so. absurd so) (λ so. absurd so) near }
 
--- what is there after a command was there before, or is its own
+-- what exists after a command existed before, or is its own
 has_tied : (q k : List ℕ) (tie : Bool) (old : Option (List ℕ)) (v : Option (List ℕ)) → eq_by_cmp name_cmp q k ≡ tie → is_some (cond tie v old) ≡ true → (is_some old ≡ true) ⊎ (k ≡ q)
 has_tied q k true old v tied has = inr (sym (same_name q k tied))
 has_tied q k false old v tied has = inl has
@@ -75,7 +75,7 @@ least_after old new commands least free is near =
 never_any : (test : List ℕ → Bool) (names : List (List ℕ)) (p : List ℕ) → list_any test names ≡ false → In p names → test p ≡ true → ⊥
 never_any test names p none inside passes = cc (sym none ∙ in_any test names p inside passes)
 
--- a name that is not there, one that is below another, one that is above another, and one that is neither
+-- a name that does not exist, one that is below another, one that is above another, and one that is neither
 pub near_absent : (m : References) (name : List ℕ) (least : Option (List ℕ)) → map.contains_key m name ≡ false → least ≡ None → IsLeastNear (map.keys m) (λ q. name ≡ q) least
 near_absent m name least absent none = record {
   found = λ u is. absurd (cc (sym none ∙ is));
@@ -109,7 +109,7 @@ near_neither m name least none_above none_below none = record {
       (λ same. never_any (λ upper. stands_above upper name) (map.keys m) u none_above upper_in (ap (stands_above u) same ∙ above)) near);
 }
 
--- a text that begins with another doesn't come before it
+-- a text that begins with another does not come before it
 begins_by : (front text rest : List ℕ) → text ≡ front ++ rest → is_lt (name_cmp text front) ≡ false
 begins_by front text [] is = ap (λ t. is_lt (name_cmp t front)) (is ∙ append-nil front) ∙ ap is_lt (tied_itself name_total front)
 begins_by front text (x ∷ rest) is = ap (λ t. is_lt (name_cmp t front)) is ∙ ap is_lt (name_total.antisymm (front ++ x ∷ rest) front ∙ ap ordering_reverse (front_before front x rest))
@@ -124,7 +124,7 @@ false_of : (b : Bool) → (b ≡ true → ⊥) → b ≡ false
 false_of true never = absurd (never refl)
 false_of false never = refl
 
--- a text that comes first and does not begin with another, where one after it does
+-- a text from a front on, before a text that begins with the front, begins with it too
 reaches : (front first text rest : List ℕ) (o : Ordering) → name_cmp first front ≡ o → is_lt o ≡ false → Before first text → text ≡ front ++ rest → begins front first ≡ true
 reaches front first text rest Less is not_so before whole = absurd (cc)
 reaches front first text rest Equal is not_so before whole = begins_from front first [] (name_exact first front is ∙ sym (append-nil front))
@@ -176,7 +176,7 @@ from_none name [] all = refl
 from_none name (x ∷ xs) all =
     ap (λ o. cond (not (is_lt o)) (Some x) (find (λ other. not (is_lt (name_cmp other name))) xs)) (All-head (λ other. Before other name) x xs all) ∙ from_none name xs (All-tail (λ other. Before other name) x xs all)
 
--- what is told of a prefix above a name
+-- what is reported of a prefix above a name
 pub told_above : (o : Option (Bor (List ℕ))) (names : List (List ℕ)) (name : List ℕ) → IfSome o (λ upper. IsFrontAbove names name upper.now) → IfNone o (list_any (λ upper. stands_above upper name) names ≡ false)
     → is_some o ≡ list_any (λ upper. stands_above upper name) names
 told_above None names name found none = sym none

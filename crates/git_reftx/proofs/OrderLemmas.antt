@@ -27,7 +27,7 @@ heads x y Equal Equal a b o_is q_is first second = (ranked x y Equal o_is, first
 heads x y Equal Greater a b o_is q_is first second = absurd (cc)
 heads x y Greater q a b o_is q_is first second = absurd (cc)
 
--- what stands between a name and one that begins with it begins with it too
+-- what is between a name and one that begins with it begins with it too
 pub between : (p l r : List ℕ) → Before p l → Before l (p ++ r) → (more : List ℕ) × (l ≡ p ++ more)
 between [] l r first second = (l, refl)
 between (x ∷ p) [] r first second = absurd (cc)

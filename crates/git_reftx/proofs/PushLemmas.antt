@@ -38,7 +38,7 @@ use Rattle.git_reftx.proofs.OrderLemmas.{never_before_itself, never_both}
 pub keys_ascend : {X : Type 0} (values : FinMap name_cmp X) → IsStrictlySortedBy name_cmp (map.keys values)
 keys_ascend values = sorted_entries values
 
--- one name more, behind the others
+-- one more name, after the others
 in_cases : (names : List (List ℕ)) (name p : List ℕ) → In p (names ++ name ∷ []) → In p names ⊎ (p ≡ name)
 in_cases [] name p (inl is) = inr is
 in_cases [] name p (inr none) = absurd none
@@ -63,7 +63,7 @@ none_true : (b : Bool) → (b ≡ true → ⊥) → b ≡ false
 none_true true never = absurd (never refl)
 none_true false never = refl
 
--- a list of which nothing passes
+-- a list in which no name passes
 none_found : (test : List ℕ → Bool) (names : List (List ℕ)) → ((p : List ℕ) → In p names → test p ≡ false) → find test names ≡ None
 none_found test [] fails = refl
 none_found test (x ∷ xs) fails = ap (λ b. cond b (Some x) (find test xs)) (fails x (inl refl)) ∙ none_found test xs (λ p inside. fails p (inr inside))
@@ -81,7 +81,7 @@ fails_there test [] none p inside = absurd inside
 fails_there test (x ∷ xs) none p (inl is) = ap test is ∙ (later_none (test x) x (find test xs) none).0
 fails_there test (x ∷ xs) none p (inr later) = fails_there test xs (later_none (test x) x (find test xs) none).1 p later
 
--- no name of a list stands above another, said of each two
+-- no name of a list is above another, for each two
 pub apart : (names : List (List ℕ)) → least_upper names ≡ None → (u l : List ℕ) → In u names → In l names → stands_above u l ≡ true → ⊥
 apart names free u l upper lower above =
     let both : true ≡ false = sym (in_any (stands_above u) names l lower above) ∙ fails_there (λ v. list_any (stands_above v) names) names free u upper in
@@ -92,7 +92,7 @@ free_from names never =
     none_found (λ v. list_any (stands_above v) names) names (λ u upper. none_true (list_any (stands_above u) names)
     (λ any. let found = any_in (stands_above u) names any in never u found.0 upper found.1 found.2))
 
--- nor with one more behind them, above which none stands
+-- nor with one more after them, if none is above it
 pub free_behind : (names : List (List ℕ)) (name : List ℕ) → least_upper names ≡ None → All (λ other. Before other name) names → (list_any (λ upper. stands_above upper name) names ≡ true → ⊥) → least_upper (names ++ name ∷ []) ≡ None
 free_behind names name free ahead none =
     free_from (names ++ name ∷ []) (λ u l upper lower above. by_cases u l above (in_cases names name u upper) (in_cases names name l lower))
@@ -103,7 +103,7 @@ free_behind names name free ahead none =
     by_cases u l above (inr is) (inl lower) = never_both u l (above_before u l above) (subst (Before l) (sym is) (all_in (λ other. Before other name) names l ahead lower))
     by_cases u l above (inr is) (inr same) = never_before_itself u (subst (Before u) (same ∙ sym is) (above_before u l above))
 
--- an entry whose key is behind the others is put behind them
+-- an entry whose key comes after the others is put after them
 put_behind : {X : Type 0} (es : List (List ℕ × X)) (name : List ℕ) (x : X) → All (λ other. Before other name) (mapped (λ e. e.0) es) → put name_cmp name x es ≡ es ++ (name, x) ∷ []
 put_behind [] name x ahead = refl
 put_behind (e ∷ es) name x ahead =
@@ -138,7 +138,7 @@ sound_behind old name target sound right ahead none room =
       few = (let more = len_behind old (map.insert old name target) name target is in omega (arith, more));
     }
 
--- what is refused can't be put behind: no sound references are the old ones and this one
+-- what is refused cannot be appended: no sound references are the old ones and this one
 pub never_pushed : (old new : References) (name target : List ℕ) (error : PushRefError) → TellsPush old name error → error ≢ Memory → AreSound new → map.entries new ≡ map.entries old ++ (name, target) ∷ [] → ⊥
 never_pushed old new name target OutOfOrder told fault sound is =
     told (All-before_last name_cmp (map.keys old) name (subst (IsStrictlySortedBy name_cmp) (keys_behind old new name target is) (keys_ascend new)))
@@ -152,7 +152,7 @@ never_pushed old new name target TooMany told fault sound is =
     absurd (omega (arith, more))
 never_pushed old new name target Memory told fault sound is = fault refl
 
--- a name is a key where the map has it
+-- a name is a key if the map has it
 pub has_key : {X : Type 0} (m : FinMap name_cmp X) (k : List ℕ) → contains_key m k ≡ true → In k (map.keys m)
 has_key m k has =
     let found = any_in (eq_by_cmp name_cmp k) (map.keys m) (sym (map.contains_key-keys m k) ∙ has) in
@@ -168,7 +168,7 @@ at_place P es i k x is all =
     let sized = length-map es (λ e. e.0) in
     subst P (get_or-map (λ e. e.0) es i (k, x) k within ∙ ap (λ e. e.0) (get_or_from_slice_get es i (k, x) (k, x) is)) (all i k (omega (arith, sized, within)))
 
--- the last name alone is compared
+-- only the last name is compared
 ahead_of : (last name q : List ℕ) (order : Ordering) → name_cmp last q ≡ order → is_lt order ≡ false → Before last name → Before q name
 ahead_of last name q Less order_is not_less first = absurd (cc)
 ahead_of last name q Equal order_is not_less first = subst (λ n. Before n name) (name_exact last q order_is) first
@@ -184,7 +184,7 @@ pub none_ahead : {X : Type 0} (es : List (List ℕ × X)) (name : List ℕ) → 
 none_ahead [] name none = All-nil (λ q. Before q name)
 none_ahead (x ∷ xs) name none = (let bad = none (omega arith) in absurd (cc))
 
--- where a name that stands above another is met: its front behind which a `/` stands
+-- a name above another is met as a front before a `/`
 pub above_at : (names : List (List ℕ)) (text : List ℕ) → ((j : ℕ) → j < length text → get_or text j 0 ≡ 47 → In (take j text) names → ⊥) → false ≡ list_any (λ upper. stands_above upper text) names
 above_at names text none =
     sym (none_true (list_any (λ upper. stands_above upper text) names) (λ any.
@@ -197,7 +197,7 @@ above_here names text j short slash inside =
     let whole : text ≡ take j text ++ 47 ∷ drop (j + 1) text = sym (take-append-drop j text) ∙ ap (λ r. take j text ++ r) (drop_more text j 0 short ∙ ap (λ b. b ∷ drop (j + 1) text) slash) in
     sym (in_any (λ upper. stands_above upper text) names (take j text) inside (above_from (take j text) text (drop (j + 1) text) whole))
 
--- a `/` behind a front that is there, by the test of both
+-- a `/` after a front that is a name, by the test of both
 and_true : (b : Bool) → (b && true) ≡ b
 and_true true = refl
 and_true false = refl

@@ -48,7 +48,7 @@ within : (text : List ℕ) → from_command (command_at text) ≤ length text
 unfolding command_at line_at
 within text = in_command (length text) (line_at text) (in_line text (split_once 10 text) refl)
 
--- what stands behind a command is shorter
+-- what follows a command is shorter
 pub command_shorter : (text : List ℕ) (command : Command) (behind : List ℕ) → command_at text ≡ Ok (command, behind) → length behind < length text
 command_shorter text command behind is =
     let fits : from_command (Ok (command, behind)) ≤ length text = subst (λ at. from_command at ≤ length text) is (within text) in
@@ -71,17 +71,17 @@ onto-with_command : (commands : List Command) (command : Command) (found : Resul
 onto-with_command commands command (Ok others) = ap (λ all. Ok all) (sym (append_assoc commands (command ∷ []) others))
 onto-with_command commands command (Err fault) = refl
 
--- a command is read where one has room
+-- a command is read if there is room for one
 pub commands_step : (room : ℕ) (rest : List ℕ) → 0 < length rest → commands_in (suc room) rest ≡ and_others (commands_in room) (command_at rest)
 commands_step room [] some = absurd (omega arith)
 commands_step room (b ∷ bs) some = refl
 
--- and none where none has
+-- and none is read if there is no room
 pub commands_full : (rest : List ℕ) → 0 < length rest → commands_in zero rest ≡ Err (past_most (command_at rest))
 commands_full [] some = absurd (omega arith)
 commands_full (b ∷ bs) some = refl
 
--- a command more was read
+-- one more command was read
 pub read_more : (whole : Result (List Command) CommandFault) (room : ℕ) (sent more : List Command) (rest behind : List ℕ) (command : Command) → 0 < length rest → length sent + room ≡ MAX_COMMANDS → length sent < MAX_COMMANDS
     → whole ≡ onto sent (commands_in room rest) → command_at rest ≡ Ok (command, behind) → more ≡ sent ++ command ∷ []
     → (left : ℕ) × (length more + left ≡ MAX_COMMANDS) × (whole ≡ onto more (commands_in left behind))
@@ -100,7 +100,7 @@ pub read_fault : (whole : Result (List Command) CommandFault) (room : ℕ) (sent
 read_fault whole zero sent rest fault some so_far wrong = so_far ∙ ap (onto sent) (commands_full rest some ∙ ap (λ found. Err (past_most found)) wrong)
 read_fault whole (suc room) sent rest fault some so_far wrong = so_far ∙ ap (onto sent) (commands_step room rest some ∙ ap (and_others (commands_in room)) wrong)
 
--- a command too many
+-- one command too many
 pub read_too_many : (whole : Result (List Command) CommandFault) (room : ℕ) (sent : List Command) (rest behind : List ℕ) (command : Command) → 0 < length rest → length sent + room ≡ MAX_COMMANDS → length sent ≡ MAX_COMMANDS
     → whole ≡ onto sent (commands_in room rest) → command_at rest ≡ Ok (command, behind) → whole ≡ Err TooMany
 read_too_many whole zero sent rest behind command some all full so_far taken = so_far ∙ ap (onto sent) (commands_full rest some ∙ ap (λ found. Err (past_most found)) taken)

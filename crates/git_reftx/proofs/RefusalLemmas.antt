@@ -36,18 +36,18 @@ refused_at f xs i x refusal inside none is refused =
     ap (first_refusal f) (sym (take-append-drop i xs)) ∙ append f (take i xs) (drop i xs) ∙ ap (λ o. option_or o (first_refusal f (drop i xs))) none
     ∙ ap (first_refusal f) (drop_more xs i x inside ∙ ap (λ y. y ∷ drop (i + 1) xs) (sym is)) ∙ ap (λ o. option_or o (first_refusal f (drop (i + 1) xs))) refused
 
--- nor is this one
+-- neither an earlier command nor this one is refused
 pub none_refused : (f : Judge) (xs : List Command) (i : ℕ) (x : Command) → i < length xs → first_refusal f (take i xs) ≡ None → x ≡ get_or xs i x → f x ≡ None → first_refusal f (take (i + 1) xs) ≡ None
 none_refused f xs i x inside none is passes =
     ap (first_refusal f) (take_more xs i x inside) ∙ append f (take i xs) (get_or xs i x ∷ []) ∙ ap (λ o. option_or o (first_refusal f (get_or xs i x ∷ []))) none
     ∙ ap (λ y. first_refusal f (y ∷ [])) (sym is) ∙ ap (λ o. option_or o None) passes
 
--- a command more is carried out
+-- one more command is carried out
 pub carried_more : (commands : List Command) (i : ℕ) (x : Command) (whole old new : References) → i < length commands → x ≡ get_or commands i x → whole ≡ changed (drop i commands) old → new ≡ changed_by x.reference x.change old → whole ≡ changed (drop (i + 1) commands) new
 carried_more commands i x whole old new inside is so_far step =
     so_far ∙ ap (λ cs. changed cs old) (drop_more commands i x inside ∙ ap (λ y. y ∷ drop (i + 1) commands) (sym is)) ∙ ap (changed (drop (i + 1) commands)) (sym step)
 
--- a reference that isn't as its command demands, and one that is
+-- a reference that is not as its command requires, and one that is
 pub stale_is : (old : References) (x : Command) (demand : Demand) (target : Option (List ℕ)) (met : Bool) (name : List ℕ) → demand ≡ x.demand → target ≡ get old x.reference → met ≡ meets demand target → met ≡ false → name ≡ x.reference → stale old x ≡ Some (Stale name)
 stale_is old x demand target met name demand_is target_is met_is unmet name_is =
     ap (λ b. cond b None (Some (Stale x.reference))) (sym (λ i. meets (demand_is i) (target_is i)) ∙ sym met_is ∙ unmet) ∙ ap (λ n. Some (Stale n)) (sym name_is)
@@ -70,7 +70,7 @@ decided false false f g = refl
 decided true false f g = sym (f refl)
 decided false true f g = g refl
 
--- two names tie where they are the same bytes
+-- two names tie if they are the same bytes
 tie_is : (k q : List ℕ) → is_eq (name_cmp k q) ≡ bytes_eq q k
 tie_is k q = decided (is_eq (name_cmp k q)) (bytes_eq q k)
     (λ tie. (bytes_eq-Decides q k).1 (sym (name_exact k q ((Equal-is (name_cmp k q)).0 tie))))
@@ -80,13 +80,13 @@ either_or : (a b : Bool) → cond a true b ≡ (a || b)
 either_or true b = refl
 either_or false b = refl
 
--- a name more was met
+-- one more name was met
 pub met_more : (earlier : List (List ℕ)) (k : List ℕ) (before after : List ℕ → Bool) → ((q : List ℕ) → before q ≡ list_any (bytes_eq q) earlier) → ((q : List ℕ) → after q ≡ cond (is_eq (name_cmp k q)) true (before q))
     → (q : List ℕ) → after q ≡ list_any (bytes_eq q) (k ∷ earlier)
 met_more earlier k before after was updates q =
     updates q ∙ either_or (is_eq (name_cmp k q)) (before q) ∙ (λ i. tie_is k q i || was q i)
 
--- a command that doesn't repeat a reference
+-- a command that does not repeat a reference
 pub repeated_more : (commands : List Command) (i : ℕ) (x : Command) (whole : Option TxRefusal) (earlier : List (List ℕ)) (k : List ℕ) → i < length commands → x ≡ get_or commands i x → k ≡ x.reference
     → whole ≡ repeated_ref earlier (drop i commands) → list_any (bytes_eq k) earlier ≡ false → whole ≡ repeated_ref (k ∷ earlier) (drop (i + 1) commands)
 repeated_more commands i x whole earlier k inside is k_is so_far new =

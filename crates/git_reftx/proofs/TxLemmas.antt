@@ -30,7 +30,7 @@ parts old commands known =
     (option_or_assoc repeated (option_or missing (option_or no_commit not_met)) after
     ∙ ap (option_or repeated) (option_or_assoc missing (option_or no_commit not_met) after ∙ ap (option_or missing) (option_or_assoc no_commit not_met after)))
 
--- the transaction, by what its three parts tell
+-- the transaction, from the answers of its three parts
 pub transacted_by : (old : References) (commands : List Command) (known : Kinds) (bad before after : Option TxRefusal)
     → first_refusal bad_ref commands ≡ bad → refused_before old commands known ≡ before → refused_after (changed commands old) ≡ after
     → transacted old commands known ≡ unless_refused (option_or bad (option_or before after)) (changed commands old)

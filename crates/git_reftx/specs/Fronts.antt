@@ -14,7 +14,7 @@ abbrev pub In : List ℕ → List (List ℕ) → Type 0
 In p [] = ⊥
 In p (q ∷ qs) = (p ≡ q) ⊎ In p qs
 
--- a name, or one before it
+-- the name is this one, or comes after it
 abbrev pub Bounds : Option (List ℕ) → List ℕ → Type 0
 Bounds None v = ⊥
 Bounds (Some u) v = (u ≡ v) ⊎ Before u v
@@ -26,7 +26,7 @@ pub record IsUpper (names : List (List ℕ)) (upper : List ℕ) : Type 0 where
   pub lower_inside : In lower names
   pub above : stands_above upper lower ≡ true
 
--- the least of those, where one of the two names is near
+-- the least name above another, among the pairs in which one of the two names is near
 pub record IsLeastNear (names : List (List ℕ)) (near : List ℕ → Type 0) (least : Option (List ℕ)) : Type 0 where
   pub found : (u : List ℕ) → least ≡ Some u → IsUpper names u
   pub bound : (u l : List ℕ) → In u names → In l names → stands_above u l ≡ true → near u ⊎ near l → Bounds least u
@@ -41,13 +41,13 @@ abbrev pub IsLesser : Option (List ℕ) → List ℕ → List ℕ → Type 0
 IsLesser None u w = w ≡ u
 IsLesser (Some v) u w = ((w ≡ v) × Bounds (Some v) u) ⊎ ((w ≡ u) × Bounds (Some u) v)
 
--- the same, where there may be no second one
+-- the lesser of two names, either of which may be missing
 abbrev pub IsLesserOf : Option (List ℕ) → Option (List ℕ) → Option (List ℕ) → Type 0
 IsLesserOf least None now = now ≡ least
 IsLesserOf None (Some u) now = now ≡ Some u
 IsLesserOf (Some v) (Some u) now = ((now ≡ Some v) × Bounds (Some v) u) ⊎ ((now ≡ Some u) × Bounds (Some u) v)
 
--- a name above another, and none that is above that comes before it
+-- the first of the names that are above this one
 pub record IsFrontAbove (names : List (List ℕ)) (name upper : List ℕ) : Type 0 where
   pub inside : In upper names
   pub above : stands_above upper name ≡ true

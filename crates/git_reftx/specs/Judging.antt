@@ -8,7 +8,7 @@ use Rattle.git_reftx.specs.declared.fault.TxRefusal.{TxRefusal}
 use Rattle.git_reftx.specs.Known.{Kinds}
 use Rattle.git_reftx.specs.Transaction.{References, first_refusal, repeated_ref, missing_object, not_a_commit, is_branch, stale, ref_conflict, too_many}
 
--- for commands whose references have valid names: what is checked on the references before
+-- the checks on the references before, for commands whose references have valid names
 abbrev pub refused_before : References → List Command → Kinds → Option TxRefusal
 refused_before old commands known =
     option_or (repeated_ref [] commands)
@@ -16,7 +16,7 @@ refused_before old commands known =
     (option_or (first_refusal (λ command. not_a_commit known (is_branch command.reference) command.change) commands)
     (first_refusal (stale old) commands)))
 
--- what is checked on the references afterwards
+-- the checks on the references afterwards
 abbrev pub refused_after : References → Option TxRefusal
 refused_after new = option_or (ref_conflict new) (too_many new)
 

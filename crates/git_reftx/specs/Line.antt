@@ -7,7 +7,7 @@ use Rattle.git_reftx.specs.declared.line.TheConstants.{LONGEST}
 pub data LineAt : Type 0 where
   -- a line, and what follows its LF
   Whole : (line behind : List ℕ) → LineAt
-  -- the beginning of a line that may still be right
+  -- the beginning of a line that may still become valid
   Unfinished : LineAt
   -- 513 bytes without LF
   TooLong : LineAt

@@ -26,7 +26,7 @@ abbrev pub past_most : Result (Command × List ℕ) CommandFault → CommandFaul
 past_most (Ok found) = TooMany
 past_most (Err fault) = fault
 
--- a command before the others
+-- a command put before others
 abbrev pub with_command : Command → Result (List Command) CommandFault → Result (List Command) CommandFault
 with_command command (Ok commands) = Ok (command ∷ commands)
 with_command command (Err fault) = Err fault

@@ -13,7 +13,7 @@ pub record IsBranch (text : List ℕ) : Type 0 where
   pub name : IsRefName text
   pub branch : is_branch text ≡ true
 
--- whether a text is one
+-- whether a text is the valid name of a branch
 abbrev pub is_branch_name : List ℕ → Bool
 is_branch_name text = is_none (least_broken_rule text) && is_branch text
 
@@ -34,7 +34,7 @@ pub record Repository : Type 0 where
 abbrev pub new_repository : Repository
 new_repository = record { head = main_branch; references = empty }
 
--- HEAD names a branch, and the references are as they may be
+-- HEAD names a branch, and the references are sound
 pub record IsRepository (repository : Repository) : Type 0 where
   pub branch : IsBranch repository.head
   pub sound : AreSound repository.references

@@ -19,7 +19,7 @@ line_shown (Whole line behind) = value.Whole line.now behind.now
 line_shown Unfinished = value.Unfinished
 line_shown TooLong = value.TooLong
 
--- the names, of which there are at most two
+-- the names, at most two
 abbrev pub names_shown : Names → List (List ℕ)
 names_shown Nothing = []
 names_shown (One name) = name ∷ []
@@ -33,12 +33,12 @@ few (Some (name ∷ other ∷ [])) = Some (Two name other)
 few (Some (name ∷ other ∷ third ∷ names)) = None
 few None = None
 
--- the command that a demand and a change are for a reference
+-- the command that a demand and a change make for a reference
 abbrev pub asked_of : List ℕ → Option (Demand × Change) → Option Command
 asked_of reference None = None
 asked_of reference (Some asked) = Some (command reference asked.0 asked.1)
 
--- the same with the reference
+-- the command that a reference, a demand and a change make
 abbrev pub parts_shown : Option (Bor (List ℕ) × Demand × Change) → Option Command
 parts_shown None = None
 parts_shown (Some parts) = Some (command parts.0.now parts.1 parts.2)

@@ -71,7 +71,7 @@ meets Absent target = is_none target
 meets Present target = is_some target
 meets (At name) target = points_at name target
 
--- stale: it is not
+-- stale: the reference is not as the command requires
 abbrev pub stale : References → Command → Option TxRefusal
 stale old command = if meets command.demand (get old command.reference) then None else Some (Stale command.reference)
 

@@ -7,7 +7,7 @@ ghost use Rattle.git_reftx.specs.Transaction.{stands_above};
 use crate::ref_map::RefMap;
 use git_refname::RefName;
 
-// Whether one of the references is above the name: looks up each prefix of it that a `/` follows.
+// Whether one of the references is above the name. Looks up each prefix of it that ends before a `/`.
 pub(crate) fn has_above(references: &RefMap, name: &RefName) -> bool
     ensures { result ≡ list_any (λ upper. stands_above upper name.now) (map.keys references.now) }
 {
@@ -27,7 +27,7 @@ pub(crate) fn front_above<'a>(references: &RefMap, name: &'a [u8]) -> Option<&'a
     None
 }
 
-// Whether this prefix of a name is a reference that a `/` follows.
+// Whether this prefix of a name is a reference, and a `/` comes next.
 fn is_above(references: &RefMap, front: &[u8], next: u8) -> bool
     ensures { result ≡ ((next == 47) && map.contains_key references.now front.now) }
 {

@@ -36,7 +36,7 @@ impl Branch {
         branch
     }
 
-    /// The branch of this name, if the text is the valid name of one.
+    /// Reads the name of a branch, if the text is a valid one.
     pub fn read(text: &[u8]) -> Option<Branch>
         ensures value { result ≡ branch_in text.now }
         ensures branch { IfSome result (λ branch. IsBranch text.now) }
@@ -59,7 +59,7 @@ impl Branch {
         }
     }
 
-    /// The name as a reference's.
+    /// The name of the branch as a reference.
     pub fn name(&self) -> &RefName
         ensures name { result.now ≡ self.now }
         ensures branch { IsBranch self.now }

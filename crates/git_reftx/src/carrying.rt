@@ -6,8 +6,8 @@ use crate::order::Order;
 use crate::ref_map::RefMap;
 use std::alloc::AllocError;
 
-// The references after the commands: a copy, in which they are carried out in turn. It shares with the
-// old ones what no command changes.
+// Carries out the commands in turn on a copy of the references, and returns the copy. It shares with the old
+// ones what no command changes.
 pub(crate) fn carried_out(old: &RefMap, orders: &[Order]) -> Result<RefMap, AllocError>
     ensures { IfOk result (λ new. new ≡ changed orders.now old.now) }
 {

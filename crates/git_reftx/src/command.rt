@@ -1,7 +1,7 @@
 use crate::ref_word::RefWord;
 use git_name::Name;
 
-/// What a command requires of its reference, as it was before the transaction.
+/// What a command requires of its reference before the transaction.
 #[derive(Clone, Copy, Debug, PartialEq, Eq)]
 pub enum Demand {
     /// Nothing.

@@ -6,7 +6,7 @@ ghost use Rattle.git_reftx.specs.Shown.{asked_of, command_of_parts, few, names_s
 use crate::command::{Change, Demand};
 use git_name::{Name, first_word};
 
-// The names after a reference.
+// The names that follow the reference in a command.
 #[derive(Clone, Copy, Debug)]
 pub(crate) enum Names {
     Nothing,
@@ -14,7 +14,7 @@ pub(crate) enum Names {
     Two(Name, Name),
 }
 
-// What a command's line says: the reference, what is required of it, and what becomes of it.
+// Reads a command's line: the reference, what is required of it, and what becomes of it.
 pub(crate) fn read_line(line: &[u8]) -> Option<(&[u8], Demand, Change)>
     ensures { parts_shown result ≡ command_of (words_of line.now) }
 {
@@ -25,7 +25,7 @@ pub(crate) fn read_line(line: &[u8]) -> Option<(&[u8], Demand, Change)>
     }
 }
 
-// The same of the words; the reference is not empty.
+// The parts of a command by its words. An empty reference makes no command.
 fn parts_of<'a>(
     verb: &[u8],
     reference: &'a [u8],
@@ -40,7 +40,7 @@ fn parts_of<'a>(
     Some((reference, demand, change))
 }
 
-// The names that the words of a text write, if there are one or two.
+// Reads the names in the words of a text, if there are one or two.
 fn read_names(text: &[u8]) -> Option<Names>
     ensures { result ≡ few (names_spelled (words_of text.now)) }
 {

@@ -10,14 +10,14 @@ use crate::ref_map::RefMap;
 use git_refname::RefName;
 use std::cmp::Ordering;
 
-// The least name that is above another after these commands. Before them there was none, so one of the
-// two names is that of a command.
+// The least name that is above another after these commands. Before them there was none, so a command has one
+// of the two names.
 pub(crate) fn least_upper(old: &RefMap, new: &RefMap, orders: &[Order]) -> Option<RefName>
     requires free { least_upper (map.keys old.now) ≡ None }
     requires changed { new.now ≡ changed orders.now old.now }
     ensures { result ≡ least_upper (map.keys new.now) }
 {
-    // Called for its clause: each name is valid.
+    // Called for its clause that each name is valid.
     let _count = new.len();
     let Some(upper) = least_near(new, orders) else {
         return None;
@@ -28,7 +28,7 @@ pub(crate) fn least_upper(old: &RefMap, new: &RefMap, orders: &[Order]) -> Optio
     }
 }
 
-// The bytes of the least name that is above another, where a command has one of the two.
+// The bytes of the least name above another, among the pairs in which a command has one of the two names.
 fn least_near<'a>(references: &RefMap, orders: &'a [Order]) -> Option<&'a [u8]>
     ensures { IsLeastNear (map.keys references.now) (AreOf orders.now) (option_copied result) }
 {
@@ -39,7 +39,7 @@ fn least_near<'a>(references: &RefMap, orders: &'a [Order]) -> Option<&'a [u8]>
     least
 }
 
-// The least name that is above another, where this is one of the two.
+// The least name above another, among the pairs in which this is one of the two names.
 fn upper_at<'a>(references: &RefMap, name: &'a RefName) -> Option<&'a [u8]>
     ensures { IsLeastNear (map.keys references.now) (λ other. name.now ≡ other) (option_copied result) }
 {
@@ -56,7 +56,7 @@ fn upper_at<'a>(references: &RefMap, name: &'a RefName) -> Option<&'a [u8]>
     Some(text)
 }
 
-// The lesser of two names, if there are two.
+// The lesser of two names, or the only one.
 fn lesser_of<'a>(least: Option<&'a [u8]>, upper: Option<&'a [u8]>) -> Option<&'a [u8]>
     ensures { IsLesserOf (option_copied least.entry) (option_copied upper.entry) (option_copied result) }
 {

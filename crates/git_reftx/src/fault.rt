@@ -3,10 +3,10 @@ use git_name::Name;
 use git_refname::RefName;
 use thiserror::Error;
 
-/// What is wrong with a body of command lines: the fault of its first wrong line.
+/// Why a body of command lines is refused: the fault of its first wrong line.
 #[derive(Clone, Copy, Debug, PartialEq, Eq, Error)]
 pub enum CommandFault {
-    #[error("the line is no command, or too long")]
+    #[error("the line is not a command, or is too long")]
     Syntax,
     #[error("there are more than 256 commands")]
     TooMany,
@@ -23,8 +23,8 @@ pub enum ReadError {
     Memory,
 }
 
-/// Why a transaction was refused, in the order in which it is checked. It names the first command, in
-/// their order, that is refused for this reason.
+/// Why a transaction was refused, in the order in which it is checked. It is the refusal of the first
+/// command, in order, that fails the check.
 #[derive(Debug, Drop)]
 pub enum TxRefusal {
     /// The word breaks a rule of reference names.
@@ -37,7 +37,7 @@ pub enum TxRefusal {
     NotACommit(Name),
     /// The reference is not as the command requires.
     Stale(RefName),
-    /// Of the references afterwards this one is above another; it is the least that is.
+    /// Of the references afterwards, this is the least that is above another.
     RefConflict(RefName),
     /// There would be more than 4,096 references.
     TooMany,
@@ -55,9 +55,9 @@ pub enum ApplyError {
 /// Why a reference was not appended.
 #[derive(Clone, Copy, Debug, PartialEq, Eq, Error)]
 pub enum PushRefError {
-    #[error("the name does not stand behind the others")]
+    #[error("the name does not sort after the others")]
     OutOfOrder,
-    #[error("a name of the others stands above this one")]
+    #[error("another name is a directory of this one")]
     RefConflict,
     #[error("there are 4,096 references")]
     TooMany,

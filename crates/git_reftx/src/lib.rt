@@ -1,6 +1,6 @@
-//! Repositories, each with its HEAD and its references, and transactions of these, as in
-//! git-update-ref(1): all commands are carried out, or none. Every check is made on the references
-//! before; a refusal leaves them as they were.
+//! Repositories, each with its HEAD and its references, and transactions of these, as in git-update-ref(1):
+//! all commands are carried out, or none. Every check but the last two is made on the references before. A
+//! refusal leaves them as they were.
 #![tactic(auto)]
 
 mod above;

@@ -4,7 +4,7 @@ ghost use Rattle.git_reftx.specs.Shown.{line_shown};
 
 use git_name::split_once;
 
-/// The most bytes of a line, without its LF.
+/// The greatest length of a line in bytes, without its LF.
 const LONGEST: usize = 512;
 
 /// What is at the start of a text of lines.
@@ -12,7 +12,7 @@ const LONGEST: usize = 512;
 pub enum Line<'a> {
     /// A line, and what follows its LF.
     Whole(&'a [u8], &'a [u8]),
-    /// The beginning of a line that may still be right.
+    /// The beginning of a line that may still become valid.
     Unfinished,
     /// 513 bytes without LF.
     TooLong,

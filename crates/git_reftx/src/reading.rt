@@ -12,7 +12,7 @@ use std::alloc::Global;
 /// The most commands of a transaction (own).
 pub const MAX_COMMANDS: usize = 256;
 
-/// The commands of a transaction's body, one a line, in their order.
+/// Reads the commands of a transaction's body, one a line, in order.
 pub fn read_commands(alloc: Global, body: &[u8]) -> Result<Vec<Command>, ReadError>
     ensures found { IfOk result (λ commands. commands_of body.now ≡ Ok commands.items) }
     ensures exact { IfErr result (TellsFault (commands_of body.now)) }
@@ -33,7 +33,7 @@ pub fn read_commands(alloc: Global, body: &[u8]) -> Result<Vec<Command>, ReadErr
 }
 
 #[tactic(auto, unfolding(crate::specs::Reading::command_at))]
-/// The command at the start of a text, and what follows its line.
+/// Reads the command at the start of a text. Returns it and what follows its line.
 pub fn first_command(alloc: Global, text: &[u8]) -> Result<(Command, &[u8]), ReadError>
     ensures taken { IfOk result (λ p. command_at text.now ≡ Ok (p.0, p.1.now)) }
     ensures exact { IfErr result (TellsFault (command_at text.now)) }

@@ -15,8 +15,7 @@ use shared_map::{Iter, SharedMap};
 use std::alloc::{AllocError, Global};
 use std::marker::Model;
 
-// Names of references, and the object at which each points. All that is known of the names is that
-// each is valid.
+// Names of references, and the object at which each points. Contracts say of the names only that each is valid.
 #[derive(Drop)]
 pub(crate) struct RefMap {
     references: SharedMap,
@@ -84,7 +83,7 @@ impl RefMap {
         self.references.first_from(name.as_bytes()).is_none()
     }
 
-    // Whether the name is above one of the references, which then is the first from the name and a `/` on.
+    // Whether the name is above one of the references. Such a reference is then the first from the name and a `/` on.
     pub(crate) fn has_below(&self, name: &RefName) -> bool
         ensures { result ≡ list_any (λ lower. stands_above name.now lower) (map.keys self.now) }
     {
@@ -110,7 +109,7 @@ impl RefMap {
         self.references.remove(name.as_bytes())
     }
 
-    // A copy of the references, which shares what is in memory until one of both changes.
+    // A copy of the references. The two share memory until one of them changes.
     pub(crate) fn copy(&self) -> Result<RefMap, AllocError>
         ensures { IfOk result (λ copied. copied ≡ self.now) }
     {
@@ -118,7 +117,7 @@ impl RefMap {
         Ok(RefMap { references })
     }
 
-    // What both have alike at the same place in memory is there once from now on.
+    // Shares with another map what both have at the same place, so that it is in memory once.
     pub(crate) fn share_with(&mut self, other: &RefMap) -> Result<(), AllocError>
         ensures { self.new ≡ self.old }
     {
@@ -130,7 +129,7 @@ impl RefMap {
 fn begins_one(references: &SharedMap, front: &[u8]) -> bool
     ensures { result ≡ list_any (λ text. begins front.now text) (map.keys references.now) }
 {
-    // Called for its clause: the texts are in order.
+    // Called for its clause that the texts are in order.
     let _texts = references.iter();
     let Some(first) = references.first_from(front) else {
         return false;

@@ -21,21 +21,21 @@ impl Model for RefWord {
 }
 
 impl RefWord {
-    /// These bytes. It allocates nothing.
+    /// A word of these bytes. It allocates nothing.
     pub fn new(bytes: Vec<u8>) -> RefWord
         ensures { result ≡ bytes.items }
     {
         RefWord { bytes }
     }
 
-    /// The bytes.
+    /// The bytes of the word.
     pub fn as_bytes(&self) -> &[u8]
         ensures { result.now ≡ self.now }
     {
         self.bytes.as_slice()
     }
 
-    /// The bytes, given up. It allocates nothing.
+    /// Consumes the word and returns its bytes. It allocates nothing.
     pub fn into_bytes(self) -> Vec<u8>
         ensures { result.items ≡ self }
     {

@@ -59,7 +59,7 @@ impl Refs {
         self.map.len()
     }
 
-    /// Whether there are none.
+    /// Whether there are no references.
     pub fn is_empty(&self) -> bool
         ensures { result ≡ (map.len self.now == 0) }
     {
@@ -81,7 +81,7 @@ impl Refs {
         self.map.iter()
     }
 
-    /// A copy of the references. It shares what is in memory until one of both changes.
+    /// A copy of the references. The two share memory until one of them changes.
     pub fn copy(&self) -> Result<Refs, AllocError>
         ensures { IfOk result (λ copied. copied ≡ self.now) }
     {
@@ -89,16 +89,16 @@ impl Refs {
         Ok(Refs { map })
     }
 
-    /// Shares with other references what both have alike at the same place in memory, so that this is there
-    /// once. An `Err` leaves the references as they were. Its time is linear in these references.
+    /// Shares with other references what both have at the same place, so that it is in memory once. An `Err`
+    /// leaves the references as they were. Its time is linear in these references.
     pub fn share_with(&mut self, other: &Refs) -> Result<(), AllocError>
         ensures { self.new ≡ self.old }
     {
         self.map.share_with(&other.map)
     }
 
-    /// Appends a reference: its name must come after all others, and none of them may be above it. An `Err`
-    /// leaves the references as they were. It looks up the map once for each `/` of the name.
+    /// Appends a reference. Its name must come after all others, and none of them may be above it. An `Err`
+    /// leaves the references as they were. It looks up the map once for each `/` in the name.
     pub fn push(&mut self, name: RefName, target: Name) -> Result<(), PushRefError>
         ensures ok { OnOk result (map.entries self.new ≡ map.entries self.old ++ (name, target) ∷ []) }
         ensures err { OnErr result (self.new ≡ self.old) }

@@ -43,7 +43,7 @@ impl Repository {
         }
     }
 
-    /// The repository of these parts.
+    /// A repository with this HEAD and these references.
     pub fn of(head: Branch, references: Refs) -> Repository
         ensures { result ≡ record { head = head; references = references } }
     {
@@ -85,14 +85,14 @@ impl Repository {
         self.references.share_with(&other.references)
     }
 
-    /// From now on HEAD names this branch, whether it exists or not.
+    /// Makes HEAD name this branch, whether it exists or not.
     pub fn set_head(&mut self, head: Branch)
         ensures { self.new ≡ record self.old { head = head } }
     {
         self.head = head;
     }
 
-    /// From now on the repository has these references.
+    /// Replaces the references.
     pub fn set_references(&mut self, references: Refs)
         ensures { self.new ≡ record self.old { references = references } }
     {

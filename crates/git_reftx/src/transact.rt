@@ -45,7 +45,7 @@ pub(crate) fn transact<K: Known>(
     Ok(new)
 }
 
-// What is checked on the references before.
+// The checks on the references before the commands.
 fn refused_before<K: Known>(
     alloc: Global,
     old: &RefMap,
@@ -66,7 +66,7 @@ fn refused_before<K: Known>(
     Ok(stale(orders, old))
 }
 
-// What is checked on the references afterwards.
+// The checks on the references after the commands.
 fn refused_after(old: &RefMap, new: &RefMap, orders: &[Order]) -> Option<TxRefusal>
     requires free { least_upper (map.keys old.now) ≡ None }
     requires changed { new.now ≡ changed orders.now old.now }

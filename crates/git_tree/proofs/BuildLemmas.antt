@@ -18,7 +18,7 @@ pub on_ok : {T E : Type 0} (r : Result T E) (P : Type 0) → is_err r ≡ false 
 on_ok (Ok x) P e h = h
 on_ok (Err x) P e h = absurd cc
 
--- where the last file name stands
+-- where the last file name begins
 name_at : (bytes : List ℕ) (e : Entry) → length e.name ≡ 32 → (start : ℕ) → start ≡ length (bytes ++ spelled e) - 33 - length e.file_name
     → (take (length e.file_name) (drop start (bytes ++ spelled e)) ≡ e.file_name) × (start ≤ length (bytes ++ spelled e)) × (length e.file_name ≤ length (drop start (bytes ++ spelled e)))
 name_at bytes e long start is =

@@ -24,7 +24,7 @@ record GoesOn (front other : List Entry) (rest last : List ℕ) : Type 0 where
   parts : rest ≡ flat_map spelled more ++ last
   are : AllByRecursion IsEntry more
 
--- where bytes begin with entries in two ways, one of them goes on
+-- if bytes begin with entries in two ways, one of them goes on from the other
 goes_on : (front other : List Entry) (rest last : List ℕ) → AllByRecursion IsEntry front → AllByRecursion IsEntry other → flat_map spelled front ++ rest ≡ flat_map spelled other ++ last → GoesOn front other rest last ⊎ GoesOn other front last rest
 goes_on [] other rest last a b same = inl (record { more = other; entries = refl; parts = same; are = b })
 goes_on (e ∷ front) [] rest last a b same = inr (record { more = e ∷ front; entries = refl; parts = sym same; are = a })
@@ -62,14 +62,14 @@ one_place_fault fault.Order fault.Truncated front e a b = absurd b
 one_place_fault fault.Order fault.Repeated front e a b = absurd (a.0 b)
 one_place_fault fault.Order fault.Order front e a b = refl
 
--- an entry that goes on behind those is not wrong
+-- an entry that goes on after the others is not wrong
 no_fault_at : (f : TreeFault) (front : List Entry) (e : Entry) (more : List Entry) (tail rest : List ℕ) → AreEntries (front ++ e ∷ more) → IsEntry e → rest ≡ spelled e ++ tail → IsWrong f front rest → ⊥
 no_fault_at f front e more tail rest are is parts (inl form) = no_form_fault f rest e tail is parts form
 no_fault_at f front e more tail rest are is parts (inr placed) =
     let same : placed.entry ≡ e = sym (first_is placed.entry placed.after placed.is).0 ∙ ap first_entry (sym placed.parts ∙ parts) ∙ (first_is e tail is).0 in
     no_place_fault f front e (pairs_at IsBelow front e more (pairs_of_sorted (front ++ e ∷ more) are.ascending)) (pairs_at Differ front e more (pairs_of_all Differ (front ++ e ∷ more) are.different)) (subst (IsPlaceFault f front) same placed.wrong)
 
--- at one place there is one fault
+-- at one place there is at most one fault
 one_fault_at : (f g : TreeFault) (front : List Entry) (rest : List ℕ) → IsWrong f front rest → IsWrong g front rest → f ≡ g
 one_fault_at f g front rest (inl a) (inl b) = one_form_fault f g rest a b
 one_fault_at f g front rest (inl a) (inr b) = absurd (no_form_fault f rest b.entry b.after b.is b.parts a)
@@ -78,14 +78,14 @@ one_fault_at f g front rest (inr a) (inr b) =
     let same : b.entry ≡ a.entry = sym (first_is b.entry b.after b.is).0 ∙ ap first_entry (sym b.parts ∙ a.parts) ∙ (first_is a.entry a.after a.is).0 in
     one_place_fault f g front a.entry a.wrong (subst (IsPlaceFault g front) same b.wrong)
 
--- a fault behind more entries is at the same place
+-- a fault after more entries is at the same place
 one_fault_on : (f g : TreeFault) (front other more : List Entry) (rest last : List ℕ) → AreEntries other → AllByRecursion IsEntry more → other ≡ front ++ more → rest ≡ flat_map spelled more ++ last → IsWrong f front rest → IsWrong g other last → f ≡ g
 one_fault_on f g front other [] rest last are is entries parts a b =
     one_fault_at f g front rest a (subst (λ (x : List Entry). IsWrong g x rest) (entries ∙ append-nil front) (subst (λ (x : List ℕ). IsWrong g other x) (sym parts) b))
 one_fault_on f g front other (e ∷ more) rest last are is entries parts a b =
     absurd (no_fault_at f front e more (flat_map spelled more ++ last) rest (subst AreEntries entries are) is.0 (parts ∙ append_assoc (spelled e) (flat_map spelled more) last) a)
 
--- bytes have one fault at the most
+-- bytes have at most one fault
 pub one_fault : (f g : TreeFault) (bytes : List ℕ) → IsTreeFault f bytes → IsTreeFault g bytes → f ≡ g
 one_fault f g bytes a b =
     elim (goes_on a.front b.front a.rest b.rest a.are.each b.are.each (sym a.parts ∙ b.parts)) [
@@ -110,7 +110,7 @@ no_tree f bytes row tree wrong =
       | inr on ↦ wrong.some (no_rest on.more wrong.rest on.parts)
     ]
 
--- an entry has one fault of pushing at the most
+-- an entry has at most one fault of pushing
 pub one_push_fault : (f g : TreeFault) (front : List Entry) (e : Entry) → IsPushFault f front e → IsPushFault g front e → f ≡ g
 one_push_fault fault.Mode g front e a b = absurd a
 one_push_fault fault.Truncated g front e a b = absurd a
@@ -130,7 +130,7 @@ one_push_fault fault.Order fault.Truncated front e a b = absurd b
 one_push_fault fault.Order fault.Repeated front e a b = absurd (a.1 b.1)
 one_push_fault fault.Order fault.Order front e a b = refl
 
--- an entry that may stand behind those has none
+-- an entry that may come after the others has none
 pub no_push_fault : (f : TreeFault) (front : List Entry) (e : Entry) → AreEntries (front ++ e ∷ []) → IsPushFault f front e → ⊥
 no_push_fault fault.Mode front e are wrong = wrong
 no_push_fault fault.Name front e are wrong = wrong (all_at IsEntry front e [] are.each).file_name

@@ -12,7 +12,7 @@ use Rattle.git_tree.specs.Fault.IsCutShort.{NoSpace, NoZero, ShortName}
 use Rattle.git_tree.specs.Row.{IsRow, before_byte, behind_byte, entries_in}
 use Rattle.git_tree.proofs.RowLemmas.{LacksIt, before_at, behind_at, stands, digits_lack, lacking, regrouped}
 
--- what stands behind the mode
+-- what follows the mode
 ends_with : (e : Entry) (r bytes : List ℕ) → bytes ≡ spelled e ++ r → (m : Mode) (after : List ℕ) → bytes ≡ digits m ++ 32 ∷ after → after ≡ e.file_name ++ 0 ∷ (e.name ++ r)
 ends_with e r bytes parts m after other =
     sym (behind_at 32 (digits m) after (digits_lack m)) ∙ ap (behind_byte 32) (sym other ∙ parts ∙ regrouped e r) ∙ behind_at 32 (digits e.mode) (e.file_name ++ 0 ∷ (e.name ++ r)) (digits_lack e.mode)
@@ -54,11 +54,11 @@ mode_is_no_word bytes m after parts wrong =
 space_stands : (bytes word after : List ℕ) → bytes ≡ word ++ 32 ∷ after → Lacks 32 bytes → ⊥
 space_stands bytes word after parts lacks = stands 32 word after (subst (LacksIt 32) parts (lacking 32 bytes lacks))
 
--- what stands behind the mode is one
+-- what follows the mode is unique
 behind_mode : (bytes : List ℕ) (m n : Mode) (after other : List ℕ) → bytes ≡ digits m ++ 32 ∷ after → bytes ≡ digits n ++ 32 ∷ other → after ≡ other
 behind_mode bytes m n after other p q = sym (behind_at 32 (digits m) after (digits_lack m)) ∙ ap (behind_byte 32) (sym p ∙ q) ∙ behind_at 32 (digits n) other (digits_lack n)
 
--- what stands before the first zero is one
+-- what precedes the first zero is unique
 before_zero : (a b after other : List ℕ) → Lacks 0 a → Lacks 0 b → a ++ 0 ∷ after ≡ b ++ 0 ∷ other → a ≡ b
 before_zero a b after other p q same = sym (before_at 0 a after (lacking 0 a p)) ∙ ap (before_byte 0) same ∙ before_at 0 b other (lacking 0 b q)
 
@@ -79,7 +79,7 @@ cut_or_name bytes (ShortName cut) wrong =
     let same = behind_mode bytes cut.mode wrong.mode (cut.file_name ++ 0 ∷ cut.after) (wrong.file_name ++ 0 ∷ wrong.after) cut.parts wrong.parts in
     wrong.bad (subst IsFileName (before_zero cut.file_name wrong.file_name cut.after wrong.after cut.file_name_is.no_zero wrong.first same) cut.file_name_is)
 
--- bytes have one fault of form at the most
+-- bytes have at most one fault of form
 pub one_form_fault : (f g : TreeFault) (bytes : List ℕ) → IsFormFault f bytes → IsFormFault g bytes → f ≡ g
 one_form_fault fault.Mode fault.Mode bytes a b = refl
 one_form_fault fault.Mode fault.Name bytes a b = absurd (name_or_mode bytes b a)

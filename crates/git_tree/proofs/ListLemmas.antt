@@ -22,7 +22,7 @@ pub all_last : (P : Entry → Type 0) (xs : List Entry) (x : Entry) → AllByRec
 all_last P [] x all = all.0
 all_last P (y ∷ ys) x all = all_last P ys x all.1
 
--- what holds of all holds of one that stands among them
+-- what holds of all holds of each one among them
 pub all_at : (P : Entry → Type 0) (front : List Entry) (e : Entry) (more : List Entry) → AllByRecursion P (front ++ e ∷ more) → P e
 all_at P [] e more all = all.0
 all_at P (a ∷ front) e more all = all_at P front e more all.1
@@ -33,7 +33,7 @@ any_here P x xs one = (0, x, omega arith, refl, one)
 pub any_behind : (P : Entry → Type 0) (x : Entry) (xs : List Entry) → Any P xs → Any P (x ∷ xs)
 any_behind P x xs any = (suc any.0, any.1, omega (arith, any.2), any.3, any.4)
 
--- what holds of none doesn't hold of some
+-- what holds of none does not hold of some
 pub none_of_any : (P : Entry → Type 0) (xs : List Entry) → AllByRecursion (λ x. P x → ⊥) xs → Any P xs → ⊥
 none_of_any P xs none any =
     All-from_recursion (λ x. P x → ⊥) xs none any.0 any.1 any.2 (subst P (sym any.3) any.4)
@@ -43,7 +43,7 @@ less_or_not Less = inl refl
 less_or_not Equal = inr (λ h. cc)
 less_or_not Greater = inr (λ h. cc)
 
--- a key that isn't above all keys isn't above some key
+-- a key that is not above all keys is not above some key
 pub any_not_below : (front : List Entry) (e : Entry) → (AllByRecursion (λ a. IsBelow a e) front → ⊥) → Any (λ a. IsBelow a e → ⊥) front
 any_not_below [] e refused = absurd (refused tt)
 any_not_below (a ∷ front) e refused =
@@ -52,7 +52,7 @@ any_not_below (a ∷ front) e refused =
       | inr not ↦ any_here (λ a. IsBelow a e → ⊥) a front not
     ]
 
--- each entry and each one behind it, entry by entry
+-- each entry and each one after it, entry by entry
 abbrev pub Pairs : (Entry → Entry → Type 0) → List Entry → Type 0
 Pairs R [] = Unit {0}
 Pairs R (e ∷ es) = AllByRecursion (R e) es × Pairs R es
@@ -94,7 +94,7 @@ pub pairs_push : (R : Entry → Entry → Type 0) (es : List Entry) (e : Entry) 
 pairs_push R [] e pairs all = (tt, tt)
 pairs_push R (a ∷ es) e pairs all = (all_push (R a) es e pairs.0 all.0, pairs_push R es e pairs.1 all.1)
 
--- each entry before one stands so to it
+-- each entry before one is so related to it
 pub pairs_at : (R : Entry → Entry → Type 0) (front : List Entry) (e : Entry) (more : List Entry) → Pairs R (front ++ e ∷ more) → AllByRecursion (λ a. R a e) front
 pairs_at R [] e more pairs = tt
 pairs_at R (a ∷ front) e more pairs = (all_at (R a) front e more pairs.0, pairs_at R front e more pairs.1)

@@ -56,7 +56,7 @@ differs_by old e a s steps p told false true ta te same =
 pub differs : (old : Reached) (e a : Entry) (s : ℕ) → FollowsLast old e s → (is_tree e.mode ≡ true → s ≡ length e.file_name → Knows old.fronts (length e.file_name) → ⊥) → IsPast old a → Differ a e
 differs old e a s steps told p same = differs_by old e a s steps p told (is_tree a.mode) (is_tree e.mode) refl refl same
 
--- what is tracked behind an entry in order
+-- what is tracked after an entry in order
 pub tracks_on : (front : List Entry) (old new : Reached) (e : Entry) (s : ℕ) → FollowsLast old e s → AllByRecursion (IsPast old) front
     → new.file_name ≡ e.file_name → new.is_tree ≡ is_tree e.mode
     → ((n : ℕ) → n ≤ s → Knows old.fronts n → Knows new.fronts n) → (is_tree e.mode ≡ false → Knows new.fronts (length e.file_name)) → Tracks (front ++ e ∷ []) new
@@ -80,11 +80,11 @@ above_all front old e s steps are = all_map {P = IsPast old} {Q = λ a. IsBelow 
 pub differ_all : (front : List Entry) (old : Reached) (e : Entry) (s : ℕ) → FollowsLast old e s → (is_tree e.mode ≡ true → s ≡ length e.file_name → Knows old.fronts (length e.file_name) → ⊥) → AllByRecursion (IsPast old) front → AllByRecursion (λ a. Differ a e) front
 differ_all front old e s steps told are = all_map {P = IsPast old} {Q = λ a. Differ a e} front (λ a p. differs old e a s steps told p) are
 
--- an entry that isn't above the last one isn't above all
+-- an entry that is not above the last one is not above all
 pub not_above : (front : List Entry) (old : Reached) (e : Entry) → Tracks front old → IsEntry e → (name_cmp (last_key old) (entry_key e) ≡ Less → ⊥) → AllByRecursion (λ a. IsBelow a e) front → ⊥
 not_above front old e tracks is refused all = refused (tracks.met (entry_key e) (key_some (is_tree e.mode) e.file_name is.file_name.some) all)
 
--- a file in order isn't the front of the last file name
+-- the last file name does not begin with the name of a file in order
 pub grows : (old : Reached) (e : Entry) (s : ℕ) → FollowsLast old e s → is_tree e.mode ≡ false → s < length e.file_name
 grows old e s steps file =
     elim (cases_lt s (length e.file_name)) [

@@ -59,7 +59,7 @@ made m f n = record { mode = m; file_name = f; name = n }
 same_entry : {m m' : Mode} {f f' n n' : List ℕ} → m ≡ m' → f ≡ f' → n ≡ n' → made m f n ≡ made m' f' n'
 same_entry {m'} {f} {f'} {n} p q r = ap (λ x. made x f n) p ∙ ap (λ x. made m' x n) q ∙ ap (λ x. made m' f' x) r
 
--- an entry that was spelled is the first one, and what was put behind it stands behind it
+-- an entry that was spelled is read first, and what was put after it follows
 pub first_is : (e : Entry) (r : List ℕ) → IsEntry e → (first_entry (spelled e ++ r) ≡ e) × (after_first (spelled e ++ r) ≡ r)
 first_is e r is =
     let head : before_byte 32 (spelled e ++ r) ≡ digits e.mode = ap (before_byte 32) (regrouped e r) ∙ before_at 32 (digits e.mode) (e.file_name ++ 0 ∷ (e.name ++ r)) (digits_lack e.mode) in
@@ -104,7 +104,7 @@ entries_are es are = row_is (length (flat_map spelled es)) es are (row_length es
 pub no_entry : (e : Entry) (r : List ℕ) → spelled e ++ r ≡ [] → ⊥
 no_entry e r h = omega (arith, spelled_some e r, ap length h)
 
--- a row that begins with an entry has it first, and the others behind it
+-- a row that begins with an entry has it first, and the others after it
 pub row_cut : (e : Entry) (r : List ℕ) (es : List Entry) → IsEntry e → AllByRecursion IsEntry es → spelled e ++ r ≡ flat_map spelled es → (others : List Entry) × (es ≡ e ∷ others) × (r ≡ flat_map spelled others) × AllByRecursion IsEntry others
 row_cut e r [] is are h = absurd (no_entry e r h)
 row_cut e r (f ∷ fs) is are h =
@@ -114,14 +114,14 @@ row_cut e r (f ∷ fs) is are h =
     let rest : r ≡ flat_map spelled fs = sym a.1 ∙ ap after_first h ∙ b.1 in
     (fs, ap (λ (x : Entry). x ∷ fs) same, rest, are.1)
 
--- right entries that are spelled make a row
+-- valid entries, when spelled, make a row
 pub row_of : (es : List Entry) → AllByRecursion IsEntry es → IsRow (flat_map spelled es)
 row_of es are = record { each = subst (AllByRecursion IsEntry) (sym (entries_are es are)) are; spelling = ap (flat_map spelled) (sym (entries_are es are)) }
 
 pub row_is_of : (bytes : List ℕ) (es : List Entry) → AllByRecursion IsEntry es → bytes ≡ flat_map spelled es → (entries_in bytes ≡ es) × IsRow bytes
 row_is_of bytes es are h = (ap entries_in h ∙ entries_are es are, subst IsRow (sym h) (row_of es are))
 
--- what stands behind the first entry of a row is a row
+-- what follows the first entry of a row is a row
 pub row_step : (bytes : List ℕ) (e : Entry) (r : List ℕ) → IsEntry e → bytes ≡ spelled e ++ r → IsRow bytes → (entries_in bytes ≡ e ∷ entries_in r) × IsRow r
 row_step bytes e r is parts row =
     let cut = row_cut e r (entries_in bytes) is row.each (sym parts ∙ row.spelling) in
@@ -135,7 +135,7 @@ pub flat_push : (es : List Entry) (e : Entry) → flat_map spelled (es ++ e ∷ 
 flat_push [] e = append-nil (spelled e)
 flat_push (f ∷ fs) e = ap (λ (x : List ℕ). spelled f ++ x) (flat_push fs e) ∙ sym (append_assoc (spelled f) (flat_map spelled fs) (spelled e))
 
--- a row with an entry behind it
+-- a row with one more entry
 pub row_push : (bytes : List ℕ) (e : Entry) → IsEntry e → IsRow bytes → (entries_in (bytes ++ spelled e) ≡ entries_in bytes ++ e ∷ []) × IsRow (bytes ++ spelled e)
 row_push bytes e is row =
     row_is_of (bytes ++ spelled e) (entries_in bytes ++ e ∷ []) (all_push IsEntry (entries_in bytes) e row.each is) (ap (λ (x : List ℕ). x ++ spelled e) row.spelling ∙ sym (flat_push (entries_in bytes) e))

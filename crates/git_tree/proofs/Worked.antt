@@ -1,4 +1,4 @@
--- Worked trees: what the definitions say of bytes that Git wrote, and of wrong ones.
+-- Examples of trees: what the definitions say of bytes that Git wrote, and of wrong ones.
 use Rattle.std.proofs.Common.{◌≡◌, ◌≢◌, ℕ, List, [], ◌∷◌, ◌++◌, codes, length, Some, None, refl, inl, inr, arith}
 use Rattle.std.specs.List.{flat_map}
 use Rattle.git_tree.specs.declared.mode.Mode.{Mode}
@@ -45,7 +45,7 @@ pub none_found : tree_in [] ≡ Some []
 unfolding tree_in entries_in first_entries
 none_found = refl
 
--- right entries of which one comes back, or which stand out of order
+-- valid entries that repeat a file name, and others out of order
 abbrev comes_back : List Entry
 comes_back = file (codes "a") ∷ file (codes "a.b") ∷ folder (codes "a") ∷ []
 
@@ -116,7 +116,7 @@ no_mode Executable = (differ_decides (codes "040000") (codes "100755")).0 refl
 no_mode Link = (differ_decides (codes "040000") (codes "120000")).0 refl
 no_mode Gitlink = (differ_decides (codes "040000") (codes "160000")).0 refl
 
--- a mode with a zero before it is none, whatever stands behind the space
+-- a mode with a leading zero is none, whatever follows the space
 pub padded_mode_is_none : (after : List ℕ) → IsTreeFault fault.Mode (codes "040000 " ++ after)
 padded_mode_is_none after = record {
   front = [];
@@ -127,7 +127,7 @@ padded_mode_is_none after = record {
   wrong = inl (record { word = codes "040000"; after = after; parts = refl; first = (lacks_decides 32 (codes "040000")).0 refl; bad = no_mode });
 }
 
--- the name of the repository is refused before the name behind it is read
+-- `.git` is refused before the name after it is read
 pub git_is_no_file_name : (after : List ℕ) → IsTreeFault fault.Name (codes "100644 .git" ++ 0 ∷ after)
 git_is_no_file_name after = record {
   front = [];

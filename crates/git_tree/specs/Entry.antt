@@ -16,11 +16,11 @@ pub record Entry : Type 0 where
 abbrev pub entry_with : Mode → List ℕ → List ℕ → Entry
 entry_with mode file_name name = record { mode = mode; file_name = file_name; name = name }
 
--- an entry, without where its file name is in memory
+-- an entry as a value, without the address of its file name
 abbrev pub plain_entry : TreeEntry → Entry
 plain_entry entry = record { mode = entry.mode; file_name = entry.file_name.now; name = entry.name }
 
--- bytes, none of them / or zero, and not `.`, `..` or `.git`
+-- at least one byte, none of them / or zero, and not `.`, `..` or `.git`
 pub record IsFileName (bytes : List ℕ) : Type 0 where
   pub some : bytes ≢ []
   pub no_slash : Lacks 47 bytes

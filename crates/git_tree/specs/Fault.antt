@@ -72,7 +72,7 @@ IsPlaceFault fault.Truncated front entry = ⊥
 IsPlaceFault fault.Repeated front entry = IsRepeated front entry
 IsPlaceFault fault.Order front entry = (IsRepeated front entry → ⊥) × IsOutOfOrder front entry
 
--- the bytes begin with a valid entry that may not come after those
+-- the bytes begin with a valid entry that cannot come after the others
 pub record IsMisplaced (fault : TreeFault) (front : List Entry) (bytes : List ℕ) : Type 0 where
   pub entry : Entry
   pub after : List ℕ

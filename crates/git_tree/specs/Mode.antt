@@ -5,7 +5,7 @@ use Rattle.git_name.specs.declared.kind.Kind.TheVariants as kind
 use Rattle.git_tree.specs.declared.mode.Mode.{Mode}
 use Rattle.git_tree.specs.declared.mode.Mode.TheVariants.{Tree, File, Executable, Link, Gitlink}
 
--- the digits that stand for a mode
+-- the digits of a mode
 abbrev pub digits : Mode → List ℕ
 digits Tree = codes "40000"
 digits File = codes "100644"
@@ -21,7 +21,7 @@ is_tree Executable = false
 is_tree Link = false
 is_tree Gitlink = false
 
--- what the entry's name must name; a gitlink names a commit of another repository, so nothing here
+-- the kind of object that the entry must name; a gitlink names a commit of another repository, so none here
 abbrev pub link_kind : Mode → Option Kind
 link_kind Tree = Some kind.Tree
 link_kind File = Some kind.Blob

@@ -7,7 +7,7 @@ use Rattle.git_tree.specs.declared.builder.PushError.TheVariants as error
 use Rattle.git_tree.specs.Entry.{Entry, IsFileName}
 use Rattle.git_tree.specs.Fault.{IsRepeated, IsOutOfOrder}
 
--- the first rule that the entry breaks after those
+-- the first rule that the entry breaks after the others
 abbrev pub IsPushFault : TreeFault → List Entry → Entry → Type 0
 IsPushFault fault.Mode front entry = ⊥
 IsPushFault fault.Name front entry = IsFileName entry.file_name → ⊥

@@ -1,11 +1,11 @@
--- The entries in bytes, if these are entries (own).
+-- The entries in bytes, if the bytes are entries (own).
 use Rattle.std.specs.Prelude.{◌≡◌, ℕ, zero, suc, List, [], ◌∷◌, length, take, drop, ◌==◌, if◌then◌else◌, slice_index}
 use Rattle.std.specs.List.{flat_map, AllByRecursion}
 use Rattle.git_tree.specs.declared.mode.Mode.{Mode}
 use Rattle.git_tree.specs.declared.mode.Mode.TheVariants.{Tree, File, Executable, Link, Gitlink}
 use Rattle.git_tree.specs.Entry.{Entry, IsEntry, spelled}
 
--- the bytes before the first such byte, and those after it
+-- the bytes before the first occurrence of the byte, and those after it
 abbrev pub before_byte : ℕ → List ℕ → List ℕ
 before_byte byte [] = []
 before_byte byte (b ∷ bytes) = if b == byte then [] else b ∷ before_byte byte bytes

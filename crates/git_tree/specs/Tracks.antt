@@ -10,7 +10,7 @@ use Rattle.git_tree.specs.Entry.{Entry, IsEntry, key, entry_key}
 use Rattle.git_tree.specs.Tree.{IsBelow, Differ}
 use Rattle.git_tree.specs.Known.{Knows}
 
--- the first is bytewise below the second, or the same
+-- the first is bytewise below the second, or equal to it
 abbrev pub AtMost : List ℕ → List ℕ → Type 0
 AtMost a k = (name_cmp a k ≡ Less) ⊎ (a ≡ k)
 
@@ -20,15 +20,15 @@ pub record Reached : Type 0 where
   pub is_tree : Bool
   pub fronts : FrontLengths
 
--- the same, without where the file name is in memory
+-- how far a reader is, without the address of the file name
 abbrev pub reached_by : Last → FrontLengths → Reached
 reached_by last fronts = record { file_name = last.file_name.now; is_tree = last.is_tree; fronts = fronts }
 
--- the same, if the file name is in bytes
+-- how far a reader is, if the file name is in bytes
 abbrev pub reached_at : List ℕ → ℕ → ℕ → Bool → FrontLengths → Reached
 reached_at bytes start len is_tree fronts = record { file_name = take len (drop start bytes); is_tree = is_tree; fronts = fronts }
 
--- the entry may come after those
+-- the entry may come after the others
 pub record MayFollow (front : List Entry) (entry : Entry) : Type 0 where
   pub above : AllByRecursion (λ a. IsBelow a entry) front
   pub new : AllByRecursion (λ a. Differ a entry) front
@@ -37,7 +37,7 @@ pub record MayFollow (front : List Entry) (entry : Entry) : Type 0 where
 abbrev pub IsFrontKnown : Reached → Entry → Type 0
 IsFrontKnown last a = is_tree a.mode ≡ false → (r : List ℕ) → last.file_name ≡ a.file_name ++ r → Knows last.fronts (length a.file_name)
 
--- the last entry's key, and none before the first entry
+-- the last entry's key; empty before the first entry
 abbrev pub last_key : Reached → List ℕ
 last_key last = key last.is_tree last.file_name
 

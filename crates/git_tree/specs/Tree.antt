@@ -14,7 +14,7 @@ IsBelow a b = name_cmp (entry_key a) (entry_key b) ≡ Less
 abbrev pub Differ : Entry → Entry → Type 0
 Differ a b = a.file_name ≢ b.file_name
 
--- valid entries, their keys strictly ascending, no two of them, near or far, with one file name
+-- valid entries with strictly ascending keys; no two of them, near or far, have the same file name
 pub record AreEntries (entries : List Entry) : Type 0 where
   pub each : AllByRecursion IsEntry entries
   pub ascending : IsStrictlySortedBy name_cmp (map entry_key entries)

@@ -22,7 +22,7 @@ use thiserror::Error;
 /// Why an entry was not appended.
 #[derive(Clone, Copy, Debug, PartialEq, Eq, Error)]
 pub enum PushError {
-    /// The entry may not come after the others: a fault of name, of a repeated file name or of order.
+    /// The entry cannot come after the others: a fault of name, of a repeated file name or of order.
     #[error(transparent)]
     Fault(TreeFault),
     /// Memory ran out.
@@ -30,8 +30,7 @@ pub enum PushError {
     Memory,
 }
 
-/// A tree that is built entry by entry, in the order of its keys. Contracts see the list of the entries
-/// appended.
+/// A tree built entry by entry, in the order of its keys. Contracts see the list of the entries appended.
 #[derive(Debug, Drop)]
 pub struct TreeBuilder {
     bytes: Vec<u8>,
@@ -55,7 +54,7 @@ impl Model for TreeBuilder {
     ghost invariant = { λ b. IsBuilt b.bytes.items b.start b.len b.is_tree b.fronts };
 }
 
-// Appends the bytes of an entry, or some of them.
+// Appends the bytes of an entry. An `Err` may leave some of them.
 fn put_some(bytes: &mut Vec<u8>, mode: Mode, file_name: &[u8], name: Name) -> Result<(), AllocError>
     ensures ok { OnOk result (bytes.new.items ≡ bytes.old.items ++ spelled (entry_with mode file_name.now name)) }
     ensures kept { take (length bytes.old.items) bytes.new.items ≡ bytes.old.items }
@@ -68,7 +67,7 @@ fn put_some(bytes: &mut Vec<u8>, mode: Mode, file_name: &[u8], name: Name) -> Re
     Ok(())
 }
 
-// Appends the bytes of an entry, or none.
+// Appends all bytes of an entry, or none.
 fn put(bytes: &mut Vec<u8>, mode: Mode, file_name: &[u8], name: Name) -> Result<(), AllocError>
     ensures ok { OnOk result (bytes.new.items ≡ bytes.old.items ++ spelled (entry_with mode file_name.now name)) }
     ensures err { OnErr result (bytes.new.items ≡ bytes.old.items) }
@@ -81,8 +80,8 @@ fn put(bytes: &mut Vec<u8>, mode: Mode, file_name: &[u8], name: Name) -> Result<
     result
 }
 
-// Whether an entry may come after those in `bytes`, of which the last file name begins at `start` and
-// has `len` bytes; and how many bytes the two file names share at the start.
+// Judges whether an entry may come after those in `bytes`, whose last file name begins at `start` and has
+// `len` bytes. Returns how many bytes the two file names share at the start.
 fn judge(
     bytes: &[u8],
     start: usize,
@@ -164,7 +163,7 @@ impl TreeBuilder {
         Ok(())
     }
 
-    /// The bytes of the tree: the one spelling of its entries. It allocates nothing.
+    /// Returns the bytes of the tree: the one spelling of its entries. It allocates nothing.
     pub fn finish(self) -> Vec<u8>
         ensures { IsTree self result.items }
     {

@@ -3,12 +3,12 @@ ghost use Rattle.std.specs.Prelude.{◌≡◌, ◌<◌, ◌≤◌, ℕ, true, fa
 use std::fmt;
 use std::marker::Model;
 
-// How many lengths are kept. This many file names, each of which begins with the one before, take more
-// than 8 MiB in a tree: n of them have n * (n + 1) / 2 bytes, and 40 more each.
+// How many lengths are kept. In a tree, this many file names, each beginning with the one before, take more
+// than 8 MiB: n of them have at least n * (n + 1) / 2 bytes, and 40 more each.
 pub(crate) const MANY: usize = 4096;
 
-// The lengths, rising, of those earlier files' names that the last file name begins with; at most
-// `DEPTH` are kept. No other file name can come again in order, since the keys between begin with it.
+// The lengths, ascending, of the earlier files' names with which the last file name begins. At most `DEPTH`
+// are kept. No other file name can come again in order, since the keys between begin with it.
 #[derive(Drop)]
 pub(crate) struct Fronts<const DEPTH: usize> {
     lengths: [u32; DEPTH],
@@ -48,8 +48,8 @@ impl<const DEPTH: usize> Fronts<DEPTH> {
         }
     }
 
-    // Whether an entry in order may have the name of an earlier file, if it shares its first `shared`
-    // bytes with the last file name, and has `len` bytes. Only a tree can.
+    // Whether an entry in order may have the name of an earlier file. Its file name has `len` bytes, and
+    // shares the first `shared` with the last one. Only a tree can repeat a name in order.
     pub(crate) fn may_hold(&self, shared: usize, len: usize, is_tree: bool) -> bool
         ensures { is_tree ≡ true → shared ≡ len → Knows self.now len → IsTrue result }
     {

@@ -4,14 +4,14 @@ ghost use Rattle.git_tree.specs.Mode.{digits, is_tree, link_kind};
 
 use git_name::Kind;
 
-/// What an entry of a tree is (git-ls-tree(1)).
+/// The mode of a tree's entry: what the entry is (git-ls-tree(1)).
 #[derive(Clone, Copy, Debug, PartialEq, Eq, PartialOrd, Ord, Hash)]
 pub enum Mode {
     /// A tree, `40000`.
     Tree,
     /// A file, `100644`.
     File,
-    /// A file that can be run, `100755`.
+    /// An executable file, `100755`.
     Executable,
     /// A symbolic link, `120000`.
     Link,
@@ -33,7 +33,7 @@ impl Mode {
         }
     }
 
-    /// The mode that these digits spell; a leading zero is refused.
+    /// Reads a mode from its digits. A leading zero is refused.
     pub fn from_digits(text: &[u8]) -> Option<Mode>
         ensures found { IfSome result (λ mode. text.now ≡ digits mode) }
         ensures none { IfNone result ((mode : Mode) → text.now ≢ digits mode) }
@@ -58,7 +58,7 @@ impl Mode {
         }
     }
 
-    /// The kind of the object that the entry links to; a gitlink links to none of this repository.
+    /// The kind of the object that the entry links to. A gitlink links to no object of this repository.
     pub fn link_kind(self) -> Option<Kind>
         ensures { result ≡ link_kind self }
     {

@@ -17,9 +17,9 @@ pub(crate) struct Last<'a> {
     pub(crate) is_tree: bool,
 }
 
-// Whether the next entry may come after those of `before`, of which the last one is given; and how
-// many bytes the two file names share at the start. The entries before are read again only if one of
-// them has the file name, or the next one is out of order.
+// Judges whether the next entry may come after those in `before`, whose last one is given. Returns how many
+// bytes the two file names share at the start. The entries before are read again only if one of them may have
+// the file name, or the next one is out of order.
 pub(crate) fn place<const DEPTH: usize>(
     last: Last<'_>,
     fronts: &Fronts<DEPTH>,

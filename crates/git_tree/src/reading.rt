@@ -12,7 +12,7 @@ use crate::mode::Mode;
 use git_name::{Name, split_once};
 use memchr::{memchr, memchr2};
 
-// Whether an entry may have the file name, which contains no zero.
+// Whether an entry may have the file name. It contains no zero byte.
 pub(crate) fn is_file_name(bytes: &[u8]) -> bool
     requires { Lacks 0 bytes.now }
     ensures { IsTrue result ↔ IsFileName bytes.now }
@@ -35,7 +35,7 @@ fn take_name(bytes: &[u8]) -> Option<(Name, &[u8])>
     Some((Name::new(*front), rest))
 }
 
-// The mode at the start and what follows its space, if one look shows both.
+// The mode at the start and what follows its space, if it is one of the common modes.
 fn plain_mode(bytes: &[u8]) -> Option<(Mode, &[u8])>
     ensures { IfSome result (λ p. bytes.now ≡ digits p.0 ++ 32 ∷ p.1.now) }
 {
@@ -64,7 +64,7 @@ fn take_mode(bytes: &[u8]) -> Result<(Mode, &[u8]), TreeFault>
     }
 }
 
-// The file name at the start and what follows its zero, if one look shows that it is valid.
+// The file name at the start and what follows its zero, if one scan shows that it is valid.
 fn plain_file_name(bytes: &[u8]) -> Option<(&[u8], &[u8])>
     ensures whole { IfSome result (λ p. bytes.now ≡ p.0.now ++ 0 ∷ p.1.now) }
     ensures right { IfSome result (λ p. IsFileName p.0.now) }

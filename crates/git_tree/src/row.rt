@@ -6,8 +6,8 @@ use crate::entry::TreeEntry;
 use crate::reading::take_entry;
 use std::marker::Model;
 
-/// The entries of a tree, in its order, each borrowed from the bytes when it is asked for. Contracts
-/// see the list of those still to come.
+/// The entries of a tree, in order, each borrowed from the bytes on demand. Contracts see the list of those
+/// still to come.
 #[derive(Debug, Drop)]
 pub struct Entries<'a> {
     rest: &'a [u8],
@@ -26,7 +26,7 @@ impl<'a> Model for Entries<'a> {
 }
 
 impl<'a> Entries<'a> {
-    // The entries of bytes that are a row of valid ones.
+    // The entries of bytes that are valid entries one after another.
     pub(crate) fn new(bytes: &'a [u8]) -> Entries<'a>
         requires { IsRow bytes.now }
         ensures { result ≡ entries_in bytes.now }
@@ -34,7 +34,7 @@ impl<'a> Entries<'a> {
         Entries { rest: bytes }
     }
 
-    /// The same entries, to be read apart from these. It allocates nothing.
+    /// A copy of the iterator, which yields the same entries. It allocates nothing.
     pub fn copy(&self) -> Entries<'a>
         ensures { result ≡ self.now }
     {

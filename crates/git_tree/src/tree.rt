@@ -12,14 +12,14 @@ use crate::place::{Last, place};
 use crate::reading::take_entry;
 use crate::row::Entries;
 
-// A tree of this many bytes has fewer than `FEW` file names each of which begins with the one before:
+// A tree of at most this many bytes has fewer than `FEW` file names that each begin with the one before:
 // `FEW` of them would take 4,640 bytes.
 const SHORT: usize = 4096;
 
 const FEW: usize = 64;
 
-// Whether the bytes are a tree. For a short one few lengths are kept, since clearing room for many
-// takes longer than reading it.
+// Checks that the bytes are a tree. For a short one few lengths are kept, since clearing room for many takes
+// longer than reading it.
 fn check(bytes: &[u8]) -> Result<(), TreeFault>
     ensures found { IfOk result (λ _. IsTree (entries_in bytes.now) bytes.now) }
     ensures exact { IfErr result (λ fault. IsTreeFault fault bytes.now) }
@@ -31,7 +31,7 @@ fn check(bytes: &[u8]) -> Result<(), TreeFault>
     }
 }
 
-// The same, keeping this many lengths.
+// Checks that the bytes are a tree, keeping at most `DEPTH` lengths.
 fn check_by<const DEPTH: usize>(bytes: &[u8], fronts: &mut Fronts<DEPTH>) -> Result<(), TreeFault>
     ensures found { IfOk result (λ _. IsTree (entries_in bytes.now) bytes.now) }
     ensures exact { IfErr result (λ fault. IsTreeFault fault bytes.now) }
@@ -58,14 +58,14 @@ fn check_by<const DEPTH: usize>(bytes: &[u8], fronts: &mut Fronts<DEPTH>) -> Res
     Ok(())
 }
 
-/// The entries of the tree that the bytes are, all of them. It allocates nothing; its time is linear in
-/// the bytes, at least up to 8 MiB, whatever they are.
+/// Checks that the bytes are a tree, and returns its entries. It allocates nothing. Its time is linear in the
+/// length, at least up to 8 MiB, whatever the bytes are.
 pub fn entries(bytes: &[u8]) -> Result<Entries<'_>, TreeFault>
     // The entries of the tree that the bytes are, if they are one.
     ensures value { result_ok result ≡ tree_in bytes.now }
     // What is read is a tree of these entries.
     ensures found { IfOk result (λ row. IsTree row bytes.now) }
-    // What is a tree is read.
+    // Every tree is read.
     ensures only { (row : List Entry) → IsTree row bytes.now → result ≡ Ok row }
     // Which fault it is.
     ensures exact { IfErr result (λ fault. IsTreeFault fault bytes.now) }

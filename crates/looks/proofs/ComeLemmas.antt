@@ -1,4 +1,4 @@
--- How far looks are: first the list's end, then one more round, after which every name is held.
+-- How far looks have come: first to the list's end, then one more round, after which every name is held.
 use Rattle.std.proofs.Common.{◌≡◌, ℕ, zero, suc, ◌<◌, ◌≤◌, ◌+◌, ◌⊎◌, inl, inr, List, [], ◌∷◌, ◌++◌, length, Bool, true, false, refl, sym, ap, subst, ◌∙◌, arith, length-append, append_assoc}
 use Rattle.std.specs.Prelude.{IsPermutation, nat_lt, if◌then◌else◌}
 use Rattle.std.proofs.lemmas.Bool.{ltb-true, ltb-false}
@@ -99,7 +99,7 @@ come_on : (held : List ℕ → Bool) (n p k : ℕ) (b c : Places) → Look held 
 come_on held n p k b c (Stays front back name whole at is names place) = come_stays held n p k b c front back name whole at is names place
 come_on held n p k b c (Leaves front back rest name whole at free names moved place) = come_leaves held n p k b c front back rest name whole at free names moved place
 
--- so many looks come so much further
+-- m looks come m looks further
 pub come_far : (held : List ℕ → Bool) (n p k m : ℕ) (b c : Places) → Looks held m b c → Come held n p k b → Come held n p (k + m) c
 come_far held n p k zero b c looks come = subst (λ i. Come held n p i c) (omega arith) (subst (Come held n p k) (sym looks) come)
 come_far held n p k (suc m) b c looks come = subst (λ i. Come held n p i c) (omega arith) (come_on held n p (k + m) looks.0 c looks.2 (come_far held n p k m b looks.0 looks.1 come))

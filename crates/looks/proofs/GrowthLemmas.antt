@@ -7,14 +7,14 @@ use Rattle.git_name.specs.Same.{is_listed}
 use Rattle.looks.specs.Growth.{AreNew, GrowsAmong}
 use Rattle.looks.specs.Places.{Places}
 
--- nothing came
+-- by nothing
 pub grows_none : (names : List (List ℕ)) (places : Places) → GrowsAmong names places places
 grows_none names places = record { place = refl; added = []; parts = sym (append-nil places.names); fresh = tt; among = tt }
 
 pub grows_same : (names : List (List ℕ)) (old new : Places) → new ≡ old → GrowsAmong names old new
 grows_same names old new same = subst (GrowsAmong names old) (sym same) (grows_none names old)
 
--- one name came
+-- by one name
 pub grows_one : (name : List ℕ) (old new : Places) → new.place ≡ old.place → new.names ≡ old.names ++ name ∷ [] → is_listed old.names name ≡ false → GrowsAmong (name ∷ []) old new
 grows_one name old new place parts fresh = record { place = place; added = name ∷ []; parts = parts; fresh = (fresh, tt); among = ((0, omega arith, refl), tt) }
 
@@ -30,7 +30,7 @@ new_both : (names xs ys : List (List ℕ)) → AreNew names xs → AreNew (names
 new_both names [] ys first then = subst (λ ns. AreNew ns ys) (append-nil names) then
 new_both names (x ∷ xs) ys first then = (first.0, new_both (names ++ x ∷ []) xs ys first.1 (subst (λ ns. AreNew ns ys) (sym (append_assoc names (x ∷ []) xs)) then))
 
--- one call after another
+-- by one call after another
 pub grows_then : (names : List (List ℕ)) (a b c : Places) → GrowsAmong names a b → GrowsAmong names b c → GrowsAmong names a c
 grows_then names a b c first then = record {
   place = then.place ∙ first.place;
@@ -40,7 +40,7 @@ grows_then names a b c first then = record {
   among = all_both (Contains names) first.added then.added first.among then.among;
 }
 
--- by names among which those are
+-- by names of a longer list
 pub grows_more : (names more : List (List ℕ)) (a b : Places) → ((name : List ℕ) → Contains names name → Contains more name) → GrowsAmong names a b → GrowsAmong more a b
 grows_more names more a b are grows = record {
   place = grows.place;
@@ -50,7 +50,7 @@ grows_more names more a b are grows = record {
   among = all_of (Contains names) (Contains more) grows.added are grows.among;
 }
 
--- by no name nothing came
+-- a catalogue that grows among no names does not change
 pub none_came : (old new : Places) → GrowsAmong [] old new → new ≡ old
 none_came old new grows = λ i. record { names = (grows.parts ∙ ap (λ added. old.names ++ added) (none grows.added grows.among) ∙ append-nil old.names) i; place = grows.place i }
   where

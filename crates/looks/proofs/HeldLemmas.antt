@@ -21,7 +21,7 @@ pub empty_of : {X : Type 0} (xs : List X) → length xs ≤ 0 → xs ≡ []
 empty_of [] h = refl
 empty_of (x ∷ xs) h = absurd (omega (arith, h))
 
--- the front up to a place is the same however the list is parted
+-- two fronts of one list with the same length are the same
 pub same_front : {X : Type 0} (xs ys zs ws : List X) → xs ++ ys ≡ zs ++ ws → length xs ≡ length zs → xs ≡ zs
 same_front [] ys [] ws e n = refl
 same_front [] ys (z ∷ zs) ws e n = absurd (omega (arith, n))
@@ -37,15 +37,15 @@ same_front {X} (x ∷ xs) ys (z ∷ zs) ws e n =
     rest [] = []
     rest (a ∷ l) = l
 
--- what is so is not otherwise
+-- nothing is both true and false
 pub true_false : (G : Type 0) (b : Bool) → b ≡ true → b ≡ false → G
 true_false G b t f = let bad : true ≡ false = sym t ∙ f in let no : ⊥ = cc in absurd no
 
--- names that are the same byte by byte are one
+-- names that agree byte by byte are the same
 pub one_name : (x y : List ℕ) → same_name x y ≡ true → x ≡ y
 one_name x y e = (slice_eq-Decides Decides-eqb x y (same_name x y) refl).0 e
 
--- a name that stands among held ones is held
+-- a name listed among held ones is held
 pub listed_held : (held : List ℕ → Bool) (names : List (List ℕ)) (name : List ℕ) → Each held names → is_listed names name ≡ true → held name ≡ true
 listed_held held [] name all is = true_false _ true refl (sym is)
 listed_held held (x ∷ xs) name all is = by (same_name name x) refl (listed_held held xs name all.1)

@@ -39,7 +39,7 @@ by_count G m k few f g = go (nat_lt m k) refl
 add_over : (a b c : ℕ) → a + b + c ≡ a + (b + c)
 add_over a b c = omega arith
 
--- slices that do not empty the list come as far as they look
+-- slices that do not empty the list come as far as they have looks
 come_all : (held : List ℕ → Bool) (n p k : ℕ) (ks : List ℕ) (b c : Places) → SweepsAll held ks b c → Come held n p k b → Come held n p (k + sum ks) c ⊎ (c.names ≡ [])
 come_all held n p k [] b c sweeps come = inl (subst (λ m. Come held n p m c) (omega arith) (subst (Come held n p k) (sym sweeps) come))
 come_all held n p k (j ∷ ks) b c sweeps come =
@@ -52,7 +52,7 @@ come_all held n p k (j ∷ ks) b c sweeps come =
     go (inl come') all = inl (subst (λ m. Come held n p m c) (add_over k sweeps.1.count (sum ks) ∙ ap (λ i. k + (i + sum ks)) all ∙ ap (λ i. k + i) (sym (sum_by-cons (λ x. x) j ks))) come')
     go (inr none) all = inr none
 
--- as far as twice the first number of names, each name is held
+-- after twice as many looks as there were names, each name is held
 come_end : (held : List ℕ → Bool) (n p k : ℕ) (c : Places) → p ≤ n → 2 * n ≤ k → Come held n p k c → Each held c.names
 come_end held n p k c within enough (First few inside far) = subst (Each held) (sym (empty_of c.names (omega (arith, few, inside, far, enough)))) tt
 come_end held n p k c within enough (Round passed few far) = all_passed held c passed (omega (arith, far, enough))
@@ -62,7 +62,7 @@ each_end : (held : List ℕ → Bool) (n p k : ℕ) (c : Places) → p ≤ n →
 each_end held n p k c within enough (inl come) = come_end held n p k c within enough come
 each_end held n p k c within enough (inr none) = subst (Each held) (sym none) tt
 
--- what slices leave is held, where they look often enough
+-- after enough looks, each name that slices leave is held
 pub swept : (held : List ℕ → Bool) (ks : List ℕ) (old new : Places) → old.place ≤ length old.names → 2 * length old.names ≤ sum ks → SweepsAll held ks old new
     → (name : List ℕ) → is_listed new.names name ≡ true → held name ≡ true
 swept held ks old new within enough sweeps name is =

@@ -4,12 +4,12 @@ use Rattle.std.specs.List.{AllByRecursion}
 use Rattle.git_name.specs.Same.{is_listed}
 use Rattle.looks.specs.Places.{Places}
 
--- of the names that follow these, each is new at its place
+-- each added name differs from all before it
 abbrev pub AreNew : List (List ℕ) → List (List ℕ) → Type 0
 AreNew names [] = ⊤
 AreNew names (name ∷ added) = (is_listed names name ≡ false) × AreNew (names ++ name ∷ []) added
 
--- the place stays, and new names were appended, each one of these
+-- the place stays, and the appended names are new and among these
 pub record GrowsAmong (names : List (List ℕ)) (old new : Places) : Type 0 where
   pub place : new.place ≡ old.place
   pub added : List (List ℕ)

@@ -2,7 +2,7 @@
 use Rattle.std.specs.Prelude.{Bool, true, false, ◌≡◌, ◌<◌, ◌+◌, ℕ, zero, suc, List, ◌∷◌, ◌++◌, length, IsPermutation}
 use Rattle.looks.specs.Places.{Places, looked_at}
 
--- one look. An empty list is not looked at
+-- one look, at a list that is not empty
 pub data Look (held : List ℕ → Bool) (old new : Places) : Type 0 where
   -- a held name stays, and the place moves on by one
   Stays : (front back : List (List ℕ)) (name : List ℕ) → old.names ≡ front ++ name ∷ back → length front ≡ looked_at old → held name ≡ true

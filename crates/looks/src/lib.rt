@@ -1,6 +1,5 @@
-//! Looks at a catalogue of names, one place after another, and what enough of them leave: definitions
-//! and laws, with no code to run. After enough looks every name that is left is held, wherever the
-//! first look fell.
+//! Looks at a catalogue of names, one place after another: definitions and laws, with no code to run. After enough
+//! looks every name that is left is held, wherever the first look fell.
 #![tactic(auto)]
 
 ghost use Rattle.std.specs.Prelude.{◌≡◌, ◌≤◌, ◌*◌, Bool, true, ℕ, List, length, sum};

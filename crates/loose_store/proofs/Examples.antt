@@ -1,4 +1,4 @@
--- A stored file, its place and a fuse that are written out, as the definitions compute them.
+-- Examples that the definitions compute: a stored file, its path, and a fuse.
 use Rattle.std.proofs.Common.{◌≡◌, ℕ, List, [], ◌∷◌, ◌++◌, codes, ap, arith, refl, None}
 use Rattle.std.proofs.lemmas.Fmt.{decimal_digit}
 use Rattle.hex.specs.Hex.{encode_with}

@@ -1,4 +1,4 @@
--- A finite map with other values, after a key is taken out of it, and its keys.
+-- Mapping the values of a finite map commutes with removing a key, and leaves the keys.
 use Rattle.std.proofs.Common.{◌≡◌, Bool, true, false, List, [], ◌∷◌, Option, None, cond, refl, sym, ap, ◌∙◌}
 use Rattle.std.specs.declared.cmp.Ordering.{Ordering}
 use Rattle.std.specs.Option.{option_map}
@@ -12,13 +12,13 @@ none_at : {X Y : Type 0} (f : X → Y) (o : Option X) (b : Bool) → option_map 
 none_at f o true = refl
 none_at f o false = refl
 
--- one value less, and its image
+-- removing a key before or after mapping gives the same map
 pub map_values_remove : {K X Y : Type 0} {R : K → K → Ordering} → IsTotalOrder R → IsAntisymmetric R → (f : X → Y) (m : FinMap R X) (k : K) → map_values f (remove m k) ≡ remove (map_values f m) k
 map_values_remove total exact f m k = same_map total exact _ _ (λ q.
     get_map_values total f (remove m k) q ∙ ap (option_map f) (get-remove total m k q) ∙ none_at f (get m q) _
     ∙ ap (cond _ None) (sym (get_map_values total f m q)) ∙ sym (get-remove total (map_values f m) k q))
 
--- the keys of mapped entries
+-- mapping leaves the keys
 pub keys_of_mapped : {K X Y : Type 0} (f : X → Y) (es : List (K × X)) → keys_of (mapped f es) ≡ keys_of es
 keys_of_mapped f [] = refl
 keys_of_mapped f (e ∷ es) = ap (λ ks. e.0 ∷ ks) (keys_of_mapped f es)

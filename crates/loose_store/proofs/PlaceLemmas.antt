@@ -1,4 +1,4 @@
--- The digits of a name part into those of its first byte and those of the others.
+-- The digits of a name are those of its first byte, then those of the others.
 use Rattle.std.proofs.Common.{◌≡◌, ◌≢◌, ℕ, ◌+◌, ◌*◌, List, [], ◌∷◌, ◌++◌, Option, None, Some, length, take, drop, refl, ap, sym, ◌∙◌, arith, append_assoc, length-append, length-drop}
 use Rattle.std.specs.Prelude.{IfSome, IfNone}
 use Rattle.std.proofs.lemmas.List.{append-nil, length-take-le, take_all}
@@ -26,7 +26,7 @@ rest_length name long =
 pub rest_of : (name : List ℕ) → length name ≡ 32 → take 31 (drop 1 name) ≡ drop 1 name
 rest_of name long = take_all 31 (drop 1 name) (let cut = length-drop 1 name in omega (arith, cut, long))
 
--- what is written over the front and over the rest is all that stands there
+-- once the front and the rest are written, nothing else is left
 pub joined_parts : (front zeros rest text : List ℕ) (k j : ℕ) → length front ≡ k → length zeros ≡ j → text ≡ take k (front ++ zeros) ++ (rest ++ drop j (drop k (front ++ zeros))) → text ≡ front ++ rest
 joined_parts front zeros rest text k j short long is =
     let first : take k (front ++ zeros) ≡ front = ap (λ n. take n (front ++ zeros)) (sym short) ∙ take-append_seam front zeros in
@@ -39,7 +39,7 @@ same_parts a b c d long is = (
   sym (drop-append_seam a b) ∙ ap (λ xs. drop (length a) xs) is ∙ ap (λ n. drop n (c ++ d)) long ∙ drop-append_seam c d,
 )
 
--- 64 digits that write a name part so
+-- 64 digits that spell a name split into its front and its rest
 pub name_parts : (front rest name : List ℕ) → length front ≡ 2 → length rest ≡ 62 → front ++ rest ≡ encode_lower name → (front ≡ front_digits name) × (rest ≡ rest_digits name)
 name_parts front rest name two others is =
     let whole : 2 + 62 ≡ 2 * length name = sym (length-append front rest ∙ ap (λ n. n + length rest) two ∙ ap (λ n. 2 + n) others) ∙ ap (λ (xs : List ℕ). length xs) is ∙ length-encode_with lower_digits name in
@@ -61,6 +61,6 @@ pub if_none : (text front rest : List ℕ) (o : Option (List ℕ)) → text ≡ 
 if_none text front rest None is none = λ name is_name first others. none name is_name (is ∙ ap (λ xs. xs ++ rest) first ∙ ap (λ xs. front_digits name ++ xs) others ∙ sym (digits_part name))
 if_none text front rest (Some name) is none = tt
 
--- a path of a folder, and what is behind it
+-- a folder's path, and what comes after it
 pub regrouped : (a b c d : List ℕ) → (a ++ b ++ c) ++ d ≡ a ++ b ++ c ++ d
 regrouped a b c d = simp append_assoc

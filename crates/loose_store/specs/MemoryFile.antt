@@ -4,7 +4,7 @@ use Rattle.git_name.specs.Object.{typed_bytes}
 use Rattle.loose_store.specs.declared.memory_file.MemoryFile.{MemoryFile}
 use Rattle.loose_store.specs.declared.memory_file.MemoryFile.TheVariants.{Bytes, Object}
 
--- those that were put, or those of the object's file
+-- the bytes that were put, or those of the object's file
 abbrev pub file_bytes : MemoryFile → List ℕ
 file_bytes (Bytes bytes) = bytes.items
 file_bytes (Object kind content) = typed_bytes (record { kind = kind; bytes = content.items })

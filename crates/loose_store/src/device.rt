@@ -14,7 +14,7 @@ pub(crate) const MAX_FILE: u64 = 8_388_608 + 15;
 /// The name of a file while it is being written. The next start removes it.
 pub(crate) const PART: &str = "part";
 
-/// Lack of memory is reported as such, and every other error as the device's.
+/// Reports lack of memory as `Memory`, and every other error as `Device`.
 pub(crate) fn told<T: Drop>(answer: io::Result<T>) -> Result<T, FileFault>
     ensures ok { IfOk answer (λ value. result ≡ Ok value) }
     ensures err { IfErr answer (λ _. IsErr result) }
@@ -76,7 +76,7 @@ pub(crate) fn read_whole(rt: &impl Files, alloc: Global, path: &str) -> io::Resu
     read_all(rt, alloc, path, length)
 }
 
-/// All bytes of a regular file of at most this length, and no bytes for anything else at this path.
+/// The bytes of a regular file of at most this length. For anything else at this path, no bytes.
 pub(crate) fn read_at_most(
     rt: &impl Files,
     alloc: Global,
@@ -90,8 +90,8 @@ pub(crate) fn read_at_most(
     read_all(rt, alloc, path, found.len())
 }
 
-/// Renames a part that was written and closed to its file, replacing a file of that name. A part that was not
-/// written completely is removed.
+/// Renames a part that was written and closed to its file, replacing a file of that name. After a failure, removes the
+/// part.
 pub(crate) fn settle(
     rt: &impl Files,
     written: io::Result<()>,

@@ -5,6 +5,7 @@ ghost use Rattle.loose_store.specs.Failures.{Counts};
 use crate::device::{MAX_FILE, PART, found, read_at_most, regular, settle, told};
 use crate::failures::counted;
 use crate::files::{FileFault, LooseFiles};
+use crate::gate::Gate;
 use crate::journal_file::JOURNALS;
 use crate::listing::list_all;
 use crate::making::{create_all, create_folder, open_lock, write_file};
@@ -19,11 +20,11 @@ use std::random::RandomSource;
 use std::rt::Files;
 use std::{fs, io};
 
-/// Files in a folder of the file system: under `objects/`, two digits, `/`, 62 digits. Whenever the process is
-/// killed, an object's file is whole or does not exist. A loss of power may lose or damage it, unless it was
-/// synced (`sync`). A removed file is kept as `swept/` and 64 digits. Opening the folder again puts it back,
-/// unless the removal was made final (`forget_removed`). No contract says what a device holds, so this store
-/// does not claim to be honest: of its clauses only the count of failures says anything.
+/// Files in a folder of the file system, each at `objects/`, two digits, `/`, 62 digits. Whenever the process is
+/// killed, an object's file is whole or does not exist. A loss of power may lose or damage a file that was not synced
+/// (`sync`). A removed file is kept as `swept/` and 64 digits. Opening the folder again puts it back, unless the
+/// removal was made final (`forget_removed`). No contract says what a device holds, so this store does not claim to be
+/// honest: of its clauses only the count of failures says anything.
 #[derive(Drop)]
 pub struct Folder<R> {
     rt: R,
@@ -33,9 +34,10 @@ pub struct Folder<R> {
     unsynced: Unsynced,
     has_swept: bool,
     failures: u64,
+    gate: Gate,
 }
 
-// Locks a folder for as long as the returned file is open. The file `lock` itself stays and means nothing.
+// Locks a folder for as long as the returned file is open. The file `lock` stays, whether or not the folder is locked.
 fn locked<R: Files<File = File>>(rt: &R, alloc: Global, folder: &str) -> io::Result<File> {
     let path = inside(alloc, folder, "lock")?;
     found(regular(rt, path.as_str()))?;
@@ -80,14 +82,14 @@ fn taken<R: Files<File = File> + AllocGlobal + Clone + Drop>(
 }
 
 impl<R: Files<File = File> + AllocGlobal + RandomSource + Clone + Drop> Folder<R> {
-    /// Opens the folder of this path, and creates it and its parents if they do not exist. While it is open,
-    /// another process that opens it gets a fault of the device. A process that is killed unlocks it. The parts
-    /// that such a process was writing are removed here, and swept files are put back unless their removal
-    /// was made final.
+    /// Opens the folder at this path, and creates it and its parents if they do not exist. While it is open, another
+    /// process that opens it gets `Device`. A process that is killed unlocks it. Removes the parts that such a process
+    /// was writing, and puts back swept files unless their removal was made final.
     pub fn open(rt: R, alloc: Global, path: &str) -> Result<Folder<R>, FileFault> {
         let text = String::from_str(alloc, path)?;
+        let hashing = told(Hashing::drawn(&rt))?;
+        let gate = Gate::new(alloc)?;
         let lock = told(taken(&rt, alloc, path))?;
-        let hashing = Hashing::drawn(&rt);
         Ok(Folder {
             rt,
             path: text,
@@ -96,7 +98,13 @@ impl<R: Files<File = File> + AllocGlobal + RandomSource + Clone + Drop> Folder<R
             unsynced: Unsynced::new(alloc, hashing),
             has_swept: false,
             failures: 0,
+            gate,
         })
+    }
+
+    /// The gate that its reserve shuts (`Reserve::open`). While it is shut, `put` answers `Device` and writes nothing.
+    pub fn gate(&self) -> Result<Gate, AllocError> {
+        self.gate.share()
     }
 }
 
@@ -123,7 +131,7 @@ fn write_in(
     settle(rt, written, part.as_str(), path)
 }
 
-// Writes a whole file. If somebody removed its folder, it is created again.
+// Writes a whole file. If somebody removed its folder, creates it again.
 fn write_at(
     rt: &impl Files,
     alloc: Global,
@@ -140,7 +148,7 @@ fn write_at(
     write_in(rt, alloc, home.as_str(), path.as_str(), bytes)
 }
 
-// Notes that a file is not synced, and writes it. If one of its name was swept, that is synced first.
+// Notes that a file is not synced, and writes it. If a file of its name was swept, syncs that move first.
 fn put_at(
     rt: &impl Files,
     alloc: Global,
@@ -157,7 +165,7 @@ fn put_at(
     write_at(rt, alloc, folder, name, bytes)
 }
 
-// The answer of the file system as one of the store, which is counted if it is a failure.
+// Turns an answer of the file system into one of the store, and counts a fault of the device.
 fn answered<T: Drop>(failures: &mut u64, answer: io::Result<T>) -> Result<T, FileFault>
     ensures { Counts failures.old failures.new result }
 {
@@ -180,6 +188,10 @@ impl<R: Files + AllocGlobal + Clone + Drop> LooseFiles for Folder<R> {
     }
 
     fn put(&mut self, alloc: Global, name: Name, bytes: &[u8]) -> Result<(), FileFault> {
+        if self.gate.is_shut() {
+            let error = io::Error::from(ErrorKind::StorageFull);
+            return answered(&mut self.failures, Err(error));
+        }
         let answer = put_at(
             &self.rt,
             alloc,

@@ -8,6 +8,7 @@ use crate::files::FileFault;
 use crate::journal_line::{line_of, name_called, read_line};
 use crate::making::{create_file, create_folder, sync_folder};
 use crate::place::inside;
+use crate::reserve::Reserve;
 use git_name::Name;
 use sha2::{Digest, Sha256};
 use std::alloc::{AllocError, Global};
@@ -51,7 +52,7 @@ fn open_regular<R: Files>(rt: &R, path: &str) -> io::Result<R::File> {
     fs::open(rt, path)
 }
 
-// The journal of this name, and the name in its first line.
+// Opens the journal of this name, if it exists, and reads the name in its first line.
 pub(crate) fn open_in<R: Files>(
     rt: &R,
     alloc: Global,
@@ -98,6 +99,20 @@ fn begin_in<R: Files>(rt: &R, alloc: Global, folder: &str, standing: Name) -> io
     Ok(file)
 }
 
+// The same, and once more if the reserve made room for it.
+fn begin_with<R: Files>(
+    rt: &R,
+    alloc: Global,
+    folder: &str,
+    standing: Name,
+    reserve: &Reserve,
+) -> io::Result<R::File> {
+    match begin_in(rt, alloc, folder, standing) {
+        Err(error) if reserve.gives_back(&error) => begin_in(rt, alloc, folder, standing),
+        begun => begun,
+    }
+}
+
 fn settle_in<R: Files>(
     rt: &R,
     alloc: Global,
@@ -112,7 +127,7 @@ fn settle_in<R: Files>(
     sync_folder(rt, home.as_str())
 }
 
-// Whether a file called so is the journal of this name. One of version 1 is, if there is no other.
+// Whether a file called so is the journal of this name. One of version 1 is, unless one of version 2 exists.
 fn is_journal(called: &str, name: Name, is_there: bool) -> bool {
     let called = called.as_bytes();
     if is_there {
@@ -122,7 +137,7 @@ fn is_journal(called: &str, name: Name, is_there: bool) -> bool {
     }
 }
 
-// Whether a folder is at this path, which nothing of the host's made.
+// Whether a folder is at this path. The host makes no folder there.
 fn is_folder(rt: &impl Files, path: &str) -> io::Result<bool> {
     match found(fs::symlink_metadata(rt, path))? {
         Some(known) => Ok(known.is_dir()),
@@ -153,7 +168,7 @@ fn clear_in<R: Files + AllocGlobal + Clone + Drop>(
     Ok(())
 }
 
-/// The journal of this name in the folder of this path, opened after its first line, if it exists.
+/// Opens the journal of this name in the folder at this path, if it exists, after its first line.
 pub fn open_journal<R: Files>(
     rt: &R,
     alloc: Global,
@@ -163,7 +178,7 @@ pub fn open_journal<R: Files>(
     told(open_after_line(rt, alloc, path, name))
 }
 
-/// The same in version 1, which has only frames, opened at its beginning.
+/// Opens the journal of this name in version 1, if it exists, at its beginning. It has only frames.
 pub fn open_old_journal<R: Files>(
     rt: &R,
     alloc: Global,
@@ -173,20 +188,22 @@ pub fn open_old_journal<R: Files>(
     told(open_old_in(rt, alloc, path, name))
 }
 
-/// A new journal that has no name yet, with its first line written. `standing` is the name of the state's text
-/// in the folder. The names in the folder of journals are synced, so a journal that was cleared before does not
-/// come back beside one that says nothing of it. This process must have the folder open (`Folder::open`).
+/// Begins a journal that has no name yet, and writes its first line. `standing` is the name of the state's text in the
+/// folder. Syncs the names in the folder of journals, so that a journal that was cleared before does not come back
+/// beside one that does not mention it. If there is no room, the reserve is given back for it. This process must have
+/// the folder open (`Folder::open`).
 pub fn begin_journal<R: Files>(
     rt: &R,
     alloc: Global,
     path: &str,
     standing: Name,
+    reserve: &Reserve,
 ) -> Result<R::File, FileFault> {
-    told(begin_in(rt, alloc, path, standing))
+    told(begin_with(rt, alloc, path, standing, reserve))
 }
 
-/// Syncs the new journal, as written so far, and gives it its name, replacing one of that name. More may be
-/// written to it. After an `Err` it may have its name or not.
+/// Syncs what was written of the new journal so far, and gives it its name, replacing one of that name. More can be
+/// written to it. After an `Err` it may or may not have its name.
 pub fn settle_journal<R: Files>(
     rt: &R,
     alloc: Global,
@@ -197,8 +214,8 @@ pub fn settle_journal<R: Files>(
     told(settle_in(rt, alloc, path, name, file))
 }
 
-/// Removes what is beside the journal of this name: journals of other states, and what a killed process was
-/// writing. `has_other_journal` says whether it may be removed.
+/// Removes all files beside the journal of this name: journals of other states, and what a killed process was writing.
+/// Call it only if `has_other_journal` returns false.
 pub fn clear_journals<R: Files + AllocGlobal + Clone + Drop>(
     rt: &R,
     alloc: Global,

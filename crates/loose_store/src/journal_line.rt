@@ -7,7 +7,7 @@ use git_name::Name;
 use std::io;
 use std::io::{ErrorKind, Read};
 
-// The length of the first line's words before its name.
+// The length of a first line before the name in it.
 const WORDS: usize = 10;
 
 const NAME_END: usize = WORDS + 64;
@@ -15,7 +15,7 @@ const NAME_END: usize = WORDS + 64;
 /// The length of a first line, with its LF.
 pub(crate) const LINE: usize = NAME_END + 1;
 
-/// The name of the journal whose file is called so, in version 2.
+/// The name of the journal of version 2 whose file is called so.
 pub(crate) fn name_called(text: &[u8]) -> Option<Name>
     ensures { IfSome result (λ name. text.now ≡ journal_called name) }
 {

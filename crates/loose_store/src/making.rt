@@ -48,8 +48,8 @@ pub(crate) fn create_folder(rt: &impl Files, path: &str) -> io::Result<()> {
     }
 }
 
-// Syncs the names in the folder above this one, and in all above that. This process did not create what it may not
-// open, nor anything in a folder that cannot be synced, such as one of autofs.
+// Syncs the names in all folders above this one. Skips a folder that it may not open, which this process did not
+// create, and one that cannot be synced, such as one of autofs, in which it created nothing.
 fn sync_above(rt: &impl Files, folder: &str) -> io::Result<()> {
     for path in Path::new(folder).ancestors().skip(1) {
         let path = if path.as_str().is_empty() {
@@ -68,8 +68,8 @@ fn sync_above(rt: &impl Files, folder: &str) -> io::Result<()> {
     Ok(())
 }
 
-/// Creates a host's folder, its ancestors and all folders in it, unless they exist, and syncs their names. A folder that
-/// has a state was created and synced before.
+/// Creates a host's folder, its ancestors and all folders in it, unless they exist, and syncs their names. If the
+/// folder has a state, it was created and synced earlier, so its ancestors are not synced again.
 pub(crate) fn create_all(rt: &impl Files, alloc: Global, folder: &str) -> io::Result<()> {
     DirBuilder::new()
         .recursive(true)

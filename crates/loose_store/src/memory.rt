@@ -13,8 +13,8 @@ use nearby::Nearby;
 use std::alloc::{AllocError, Global};
 use std::marker::Model;
 
-/// Files in memory, hashed by their names. They are in the order in which they were put, so objects that came
-/// together are near one another. An object is kept as it was put. The bytes of its file are made when it is
+/// Files in memory, in a map that hashes their names. They are in the order in which they were put, so objects that
+/// came together are near one another. An object is kept as it was put, and the bytes of its file are made when it is
 /// read.
 #[derive(Debug, Drop)]
 pub struct Memory {
@@ -81,14 +81,14 @@ fn names_in(
 impl Memory {
     ghost use Rattle.loose_store.specs.MemoryFile.{file_bytes};
 
-    /// No files.
+    /// An empty store.
     pub fn new(alloc: Global) -> Memory
         ensures { result ≡ map.empty }
     {
         Memory::with_hashing(alloc, Hashing::default())
     }
 
-    /// No files. Names are hashed so.
+    /// An empty store that hashes names this way.
     pub fn with_hashing(alloc: Global, hashing: Hashing) -> Memory
         ensures { result ≡ map.empty }
     {
@@ -98,7 +98,7 @@ impl Memory {
         }
     }
 
-    /// Puts these bytes under a name. A test can damage a file by it.
+    /// Puts these bytes under a name. Tests use it to damage a file.
     pub fn set(&mut self, alloc: Global, name: Name, bytes: &[u8]) -> Result<(), AllocError>
         ensures ok { OnOk result (self.new ≡ map.insert self.old name bytes.now) }
         ensures err { OnErr result (self.new ≡ self.old) }

@@ -25,7 +25,7 @@ impl MemoryFile {
         }
     }
 
-    // The object that was put, its kind and its bytes.
+    // The kind and the bytes of an object that was put as one.
     pub(crate) fn object(&self) -> Option<(Kind, &[u8])>
         ensures { IfSome result (λ lent. file_bytes self.now ≡ typed_bytes (record { kind = lent.0; bytes = lent.1.now })) }
     {

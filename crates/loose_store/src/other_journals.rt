@@ -13,7 +13,7 @@ use std::{fs, io};
 enum Standing {
     // There is none.
     None,
-    // In version 1, which does not name the state before.
+    // It has version 1, which does not name the state before it.
     Old,
     // It was begun when the state in the folder had this name.
     After(Name),
@@ -38,8 +38,8 @@ fn is_begun_after<R: Files>(rt: &R, alloc: Global, folder: &str, other: Name, na
     }
 }
 
-// Whether a save that was killed leaves the journal `other` beside the one of this name: as the journal of the
-// state that was replaced, or of the state that was to replace it.
+// Whether a save that was killed may have left the journal `other` beside the one of this name, as the journal of the
+// state that was replaced or of the state that was to replace it.
 fn is_left_over<R: Files>(
     rt: &R,
     alloc: Global,
@@ -65,7 +65,7 @@ fn length_of(rt: &impl Files, path: &str) -> io::Result<u64> {
     }
 }
 
-// Whether a file called so is a journal of another state that has more than its first line.
+// Whether a file called so is another state's journal that has more than its first line and is not left over.
 fn is_other<R: Files>(
     rt: &R,
     alloc: Global,
@@ -114,8 +114,8 @@ fn other_in<R: Files + AllocGlobal + Clone + Drop>(
     Ok(false)
 }
 
-/// Whether beside the journal of this name there is a journal of another state that has any frames, and that
-/// is not left by a save that was killed. One of version 1 counts only if there is no journal of this name.
+/// Whether another state's journal with any frames is beside the journal of this name. One that a killed save left does
+/// not count. One of version 1 counts only if there is no journal of this name.
 pub fn has_other_journal<R: Files + AllocGlobal + Clone + Drop>(
     rt: &R,
     alloc: Global,

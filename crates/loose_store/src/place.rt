@@ -39,7 +39,7 @@ pub(crate) fn path_of(alloc: Global, folder: &str, name: Name) -> Result<String,
     inside(alloc, home.as_str(), rest.as_str())
 }
 
-/// The name of which these are the folder and the file in it. Any other folder or file is of no name.
+/// The name whose file is `rest` in the folder `front`. For any other folder or file, `None`.
 pub(crate) fn name_at(front: &[u8], rest: &[u8]) -> Option<Name>
     ensures found { IfSome result (λ name. (front.now ≡ front_digits name) × (rest.now ≡ rest_digits name)) }
     ensures none { IfNone result ((name : List ℕ) → IsName name → front.now ≡ front_digits name → rest.now ≢ rest_digits name) }

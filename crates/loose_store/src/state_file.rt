@@ -2,6 +2,7 @@ use crate::device::{PART, found, read_whole, settle, told};
 use crate::files::FileFault;
 use crate::making::{create_file, sync_folder};
 use crate::place::inside;
+use crate::reserve::Reserve;
 use std::alloc::Global;
 use std::fs::OpenFile;
 use std::io;
@@ -30,7 +31,21 @@ fn write_in(rt: &impl Files, alloc: Global, folder: &str, bytes: &[u8]) -> io::R
     sync_folder(rt, folder)
 }
 
-/// The text of the file `state` in the folder of this path, if it exists.
+// The same, and once more from the beginning if the reserve made room for it.
+fn write_with(
+    rt: &impl Files,
+    alloc: Global,
+    folder: &str,
+    bytes: &[u8],
+    reserve: &Reserve,
+) -> io::Result<()> {
+    match write_in(rt, alloc, folder, bytes) {
+        Err(error) if reserve.gives_back(&error) => write_in(rt, alloc, folder, bytes),
+        written => written,
+    }
+}
+
+/// Reads the file `state` in the folder at this path, if it exists.
 pub fn read_state(
     rt: &impl Files,
     alloc: Global,
@@ -39,14 +54,15 @@ pub fn read_state(
     told(read_in(rt, alloc, path))
 }
 
-/// Writes the file `state` in the folder of this path, replacing one that exists. After an `Err`, a kill or a
-/// loss of power the file has the whole old text or the whole new one; after `Ok` it has the new one. This
-/// process must have the folder open (`Folder::open`).
+/// Writes the file `state` in the folder at this path, replacing one that exists. After an `Err`, a kill or a loss of
+/// power the file has the whole old text or the whole new one; after `Ok` it has the new one. If there is no room, the
+/// reserve is given back for it. This process must have the folder open (`Folder::open`).
 pub fn write_state(
     rt: &impl Files,
     alloc: Global,
     path: &str,
     bytes: &[u8],
+    reserve: &Reserve,
 ) -> Result<(), FileFault> {
-    told(write_in(rt, alloc, path, bytes))
+    told(write_with(rt, alloc, path, bytes, reserve))
 }

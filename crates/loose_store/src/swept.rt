@@ -30,8 +30,8 @@ fn is_there(rt: &impl Files, path: &str) -> io::Result<bool> {
     Ok(found(fs::symlink_metadata(rt, path))?.is_some())
 }
 
-// Moves a file into a folder, replacing one of its name. Returns whether it did: if there is no such file, nothing is
-// moved. If somebody removed the folder, it is created again.
+// Moves a file into a folder, replacing one of its name. Returns whether the file existed: if not, nothing is moved. If
+// somebody removed the folder, creates it again.
 fn move_into(rt: &impl Files, from: &str, home: &str, to: &str) -> io::Result<bool> {
     if found(fs::rename(rt, from, to))?.is_some() {
         return Ok(true);
@@ -45,7 +45,7 @@ fn move_into(rt: &impl Files, from: &str, home: &str, to: &str) -> io::Result<bo
 }
 
 /// Moves the file of a name from the objects to the swept files. If there is none, nothing changes. If one of this name
-/// was swept before, that one stays, and the file is removed: only the older one is sure to be on the disk.
+/// was swept before, keeps that one and removes the file: only the older one is sure to be on the disk.
 pub(crate) fn sweep_at(rt: &impl Files, alloc: Global, folder: &str, name: Name) -> io::Result<()> {
     let path = path_of(alloc, folder, name)?;
     let home = inside(alloc, folder, SWEPT)?;
@@ -88,9 +88,9 @@ fn is_whole(rt: &impl Files, alloc: Global, path: &str, name: Name) -> io::Resul
     }
 }
 
-// Puts a swept file back. If a whole file of its name was written later, that one is synced, and the swept one is
-// removed: until then only the swept one is sure to survive a loss of power. A file that is not whole is replaced:
-// power may have failed before it was on the disk.
+// Puts a swept file back. If a whole file of its name was written later, syncs that one and removes the swept one:
+// until then only the swept one is sure to survive a loss of power. Replaces a file that is not whole: power may have
+// failed before it was on the disk.
 fn put_back(rt: &impl Files, alloc: Global, folder: &str, name: Name) -> io::Result<()> {
     let path = path_of(alloc, folder, name)?;
     let swept = path_of_swept(alloc, folder, name)?;
@@ -104,8 +104,8 @@ fn put_back(rt: &impl Files, alloc: Global, folder: &str, name: Name) -> io::Res
     Ok(())
 }
 
-/// Makes the move of the swept file of a name survive a loss of power, if there is one. It is called before another
-/// file takes its old place: both could be lost together otherwise.
+/// Makes the move of the swept file of a name, if there is one, survive a loss of power. Call it before another file
+/// takes its old place: otherwise both could be lost together.
 pub(crate) fn sync_move(
     rt: &impl Files,
     alloc: Global,
@@ -122,7 +122,7 @@ pub(crate) fn sync_move(
     sync_folder(rt, home.as_str())
 }
 
-/// Puts all swept files back, so nothing has been swept since removals were last made final.
+/// Puts back all files that were swept since removals were last made final.
 pub(crate) fn put_all_back<R: Files + AllocGlobal + Clone + Drop>(
     rt: &R,
     alloc: Global,
@@ -135,8 +135,8 @@ pub(crate) fn put_all_back<R: Files + AllocGlobal + Clone + Drop>(
     Ok(())
 }
 
-/// Removes the swept files. No state and no journal in the folder may need one. What cannot be removed is put back at the
-/// next start, and does no harm.
+/// Removes the swept files. The state and the journals in the folder must not need any of them. A file that cannot be
+/// removed is put back at the next start, and does no harm.
 pub(crate) fn empty_swept<R: Files + AllocGlobal + Clone + Drop>(
     rt: &R,
     alloc: Global,

@@ -8,20 +8,21 @@ use std::io::ErrorKind;
 use std::rt::Files;
 use std::{fs, io};
 
-// As soon as there are so many, half of them are synced ahead.
+// From this many names on, half of the files are synced ahead.
 const MANY: usize = 1024;
 
 /// The names of files that a loss of power may lose or damage.
 #[derive(Drop)]
 pub(crate) struct Unsynced {
     names: IndexSet<Name, Hashing>,
-    // The first bytes of names of files that were synced, and whose folders were not.
+    // By the first byte of a name: whether its folder has files that were synced, and was not synced itself.
     homes: [bool; 256],
-    // Whether a sync failed. The system may have dropped what it could not write, and a later sync does not say so.
+    // Whether a sync failed. The system may have dropped what it could not write, and a later sync does not report
+    // that.
     has_failed: bool,
 }
 
-// Opens an object's file, unless it was removed. What is not a regular file is no object's.
+// Opens an object's file, unless it was removed. Only a regular file can be an object's.
 fn open_object<R: Files>(
     rt: &R,
     alloc: Global,
@@ -35,7 +36,7 @@ fn open_object<R: Files>(
     }
 }
 
-// The folder of names that begin with this byte, unless somebody removed it.
+// Opens the folder of names that begin with this byte, unless somebody removed it.
 fn open_home<R: Files>(
     rt: &R,
     alloc: Global,
@@ -48,7 +49,7 @@ fn open_home<R: Files>(
 }
 
 impl Unsynced {
-    /// There are none.
+    /// No names.
     pub(crate) fn new(alloc: Global, hashing: Hashing) -> Unsynced {
         Unsynced {
             names: IndexSet::with_hasher(alloc, hashing),
@@ -73,7 +74,7 @@ impl Unsynced {
         self.names.swap_remove(&name);
     }
 
-    // Whether this was synced. A failure is the last.
+    // Passes on the result of a sync. After a failure no more syncs are tried.
     fn was_synced(&mut self, synced: io::Result<()>) -> io::Result<()> {
         if synced.is_err() {
             self.has_failed = true;
@@ -81,7 +82,7 @@ impl Unsynced {
         synced
     }
 
-    // Syncs the bytes of the file of a name that was taken out. If it cannot be opened, the name is there again.
+    // Syncs the bytes of the file of a name that was taken out. If the file cannot be opened, puts the name back.
     fn sync_bytes(
         &mut self,
         rt: &impl Files,
@@ -133,7 +134,7 @@ impl Unsynced {
         self.was_synced(objects.sync_all())
     }
 
-    // Syncs so many of them, and forgets these.
+    // Syncs at most `most` of the files, and forgets their names.
     fn sync_some(
         &mut self,
         rt: &impl Files,
@@ -153,13 +154,13 @@ impl Unsynced {
         self.sync_homes(rt, alloc, folder)
     }
 
-    /// Syncs all of them, and forgets them. If something cannot be opened, it may be called again; after a sync
-    /// that failed it always fails.
+    /// Syncs all of the files, and forgets their names. If something cannot be opened, it may be called again. After a
+    /// failed sync it always fails.
     pub(crate) fn sync(&mut self, rt: &impl Files, alloc: Global, folder: &str) -> io::Result<()> {
         self.sync_some(rt, alloc, folder, usize::MAX)
     }
 
-    /// Syncs half of them, if there are many. What cannot be opened is left for later.
+    /// Syncs half of the files, if there are many. What cannot be opened is left for later.
     pub(crate) fn sync_ahead(
         &mut self,
         rt: &impl Files,

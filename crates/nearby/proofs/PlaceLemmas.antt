@@ -22,7 +22,7 @@ keys_valued : (names : List (List ℕ)) → keys_of (map valued names) ≡ names
 keys_valued [] = refl
 keys_valued (name ∷ names) = ap (λ rest. name ∷ rest) (keys_valued names)
 
--- a name that stands at a place stands at no other
+-- a name at one place is at no other
 pub only_place : (names : List (List ℕ)) (at : ℕ) (name : List ℕ) → IsDistinct same_name names → slice_get names at ≡ Some name → position (same_name name) names ≡ Some at
 only_place names at name distinct is =
     let entries = map valued names in
@@ -36,18 +36,18 @@ placed test names =
     ap (λ all. is_some (position test all)) (sym (keys_valued names)) ∙ some_index test (map valued names)
     ∙ is_some-lookup test (map valued names) ∙ ap (list_any test) (keys_valued names)
 
--- the name stands at its place
+-- the name is at its place
 name_at : (names : List (List ℕ)) (name : List ℕ) (place : ℕ) → position (same_name name) names ≡ Some place → slice_get names place ≡ Some name
 name_at names name place placed =
     let found = position-Some (same_name name) names place name placed in
     slice_get-get_or names place name found.0 ∙ ap Some (sym (one_name name (get_or names place name) found.1))
 
 module _ {X : Type 0} where
-  -- what stands there is what a look-up gives
+  -- a look-up returns the value at the name's place
   pub value_at : (entries : List (List ℕ × X)) (name : List ℕ) (place : ℕ) (value : X) → position (same_name name) (keys_of entries) ≡ Some place → slice_get (values_of entries) place ≡ Some value → lookup (same_name name) entries ≡ Some value
   value_at entries name place value placed is = sym (subst (λ found. IfSome found (λ i. slice_get (values_of entries) i ≡ lookup (same_name name) entries)) placed (value_index (same_name name) entries)) ∙ is
 
-  -- a name without a place is not there
+  -- a look-up does not find a name that has no place
   pub none_at : (entries : List (List ℕ × X)) (name : List ℕ) → position (same_name name) (keys_of entries) ≡ None → lookup (same_name name) entries ≡ None
   none_at entries name none = (Missing-position (same_name name) entries none).value
 
@@ -56,7 +56,7 @@ module _ {X : Type 0} where
   pair_at (entry ∷ entries) zero name value key is = (let same : entry.0 ≡ name = cc in let told : entry.1 ≡ value = cc in ap (λ n. Some (n, entry.1)) same ∙ ap (λ v. Some (name, v)) told)
   pair_at (entry ∷ entries) (suc place) name value key is = pair_at entries place name value key is
 
-  -- what is written there is found under that name, and all else as before
+  -- a value written at a name's place is found under that name, and all else stays
   pub written_at : {S : Type 0} (map : IndexMap (List ℕ) X S) (name : List ℕ) (place : ℕ) (value now : X) → IsUnique same_name map → position (same_name name) (keys_of map.entries) ≡ Some place → slice_get (values_of map.entries) place ≡ Some value
       → (q : List ℕ) → lookup (same_name q) (set_value_at map.entries place now) ≡ cond (same_name name q) (Some now) (lookup (same_name q) map.entries)
   written_at map name place value now unique placed is q =

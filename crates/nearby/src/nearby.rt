@@ -2,7 +2,6 @@ ghost use Rattle.std.specs.Prelude.{◌≡◌, Some, IfSome, slice_get};
 ghost use Rattle.std.specs.Bool.{OnTrue};
 ghost use Rattle.std.specs.HashSet.{contains};
 ghost use Rattle.std.specs.Option.{option_copied};
-ghost use Rattle.indexmap.specs.IndexMap as map;
 ghost use Rattle.indexmap.specs.IndexMap.{get};
 ghost use Rattle.indexmap.specs.IndexSet.{index_of};
 ghost use Rattle.git_name.specs.Same.{same_name};
@@ -18,7 +17,7 @@ const REACH: usize = 8;
 // If `far` is above this, only the last place itself is tried.
 const PATIENCE: usize = 4;
 
-// The most that `far` counts, so that a few names found near bring it down again.
+// The largest value of `far`, so that a few names found near bring it down again.
 const COUNTED: usize = 8;
 
 // How many places of hashed names are remembered.
@@ -35,7 +34,7 @@ pub struct Nearby {
     other: Cell<usize>,
     // How much more often names were lately found far from these places than near.
     far: Cell<usize>,
-    // By a name's first bytes, the last place at which a hashed name that begins so was found.
+    // By the first 10 bits of a name, where a hashed name with these bits was found last.
     guesses: [Cell<u32>; GUESSES],
 }
 
@@ -49,7 +48,7 @@ fn stands_at(names: &[Name], at: usize, name: Name) -> bool
     }
 }
 
-// The place of the name, if it is this many places before or after this one.
+// The place of the name, if it is `step` places before or after `place`.
 fn place_beside(names: &[Name], place: usize, step: usize, name: Name) -> Option<usize>
     ensures { IfSome result (λ at. slice_get names.now at ≡ Some name) }
 {
@@ -64,9 +63,8 @@ fn place_beside(names: &[Name], place: usize, step: usize, name: Name) -> Option
     None
 }
 
-// The place of the name, if it is near one of these two. Nearer places are tried first, those of both
-// by turns: a walk that goes back and forth between two places would otherwise try all places near the
-// wrong one each time.
+// The place of the name, if it is near `last` or `other`. Tries nearer places first, those of both by turns: a walk
+// that goes back and forth between two places would otherwise try all places near the wrong one each time.
 fn place_near(names: &[Name], last: usize, other: usize, name: Name) -> Option<usize>
     ensures { IfSome result (λ at. slice_get names.now at ≡ Some name) }
 {
@@ -81,7 +79,7 @@ fn place_near(names: &[Name], last: usize, other: usize, name: Name) -> Option<u
     None
 }
 
-// The index of the guess for names that begin as this one does.
+// The index of the guess for names with the first bits of this one.
 fn guess_of(name: Name) -> usize {
     let bytes = name.as_bytes();
     ((bytes[0] as usize) << 2) | ((bytes[1] >> 6) as usize)
@@ -103,7 +101,7 @@ impl Nearby {
         }
     }
 
-    // Counts a name that was found near one of the last places, or far from both, or not at all.
+    // Counts whether a name was found near one of the last places.
     fn count(&self, is_near: bool) {
         let far = self.far.get();
         if is_near {
@@ -143,7 +141,7 @@ impl Nearby {
         Some(place)
     }
 
-    // The place of the name, if it is where the last hashed name with the same beginning was.
+    // The place of the name, if it is where the last hashed name with the same first bits was.
     fn find_again(&self, names: &[Name], name: Name) -> Option<usize>
         ensures { IfSome result (λ at. slice_get names.now at ≡ Some name) }
     {
@@ -169,8 +167,7 @@ impl Nearby {
         self.find_again(names, name)
     }
 
-    /// The place of a name in a set. It is searched near the last places first, whatever table they belong
-    /// to.
+    /// The place of a name in a set. Searches near the last places first, whatever table they belong to.
     pub fn place(&self, names: &IndexSet<Name, Hashing>, name: Name) -> Option<usize>
         ensures { result ≡ index_of same_name names.now name }
     {
@@ -185,31 +182,14 @@ impl Nearby {
         Some(place)
     }
 
-    /// Whether a set has a name. It is searched near the last places first, whatever table they belong to.
+    /// Whether a set has a name. Searches near the last places first, whatever table they belong to.
     pub fn holds(&self, names: &IndexSet<Name, Hashing>, name: Name) -> bool
         ensures { result ≡ contains same_name names.now name }
     {
         self.place(names, name).is_some()
     }
 
-    /// The place of a name in a map. It is searched near the last places first, whatever table they belong
-    /// to.
-    pub fn key_place<V>(&self, entries: &IndexMap<Name, V, Hashing>, name: Name) -> Option<usize>
-        ensures { result ≡ map.index_of same_name entries.now name }
-    {
-        if let Some(place) = self.find(entries.keys().as_slice(), name) {
-            return Some(place);
-        }
-        let Some(place) = entries.get_index_of(&name) else {
-            self.count(false);
-            return None;
-        };
-        self.learn(name, place);
-        Some(place)
-    }
-
-    /// The value of a name in a map. It is searched near the last places first, whatever table they belong
-    /// to.
+    /// The value of a name in a map. Searches near the last places first, whatever table they belong to.
     pub fn get<'a, V>(&self, entries: &'a IndexMap<Name, V, Hashing>, name: Name) -> Option<&'a V>
         ensures { option_copied result ≡ get same_name entries.now name }
     {

@@ -1,9 +1,9 @@
 -- What is known of a number, by its links and its time.
-use Rattle.std.proofs.Common.{◌≡◌, ◌≢◌, ◌⊎◌, inl, inr, ℕ, ◌<◌, true, false, List, [], Option, Some, None, Contains, is_some, length, set, get_or, refl, sym, ap, ◌∙◌}
+use Rattle.std.proofs.Common.{◌≡◌, ◌≢◌, ◌⊎◌, inl, inr, ℕ, ◌<◌, true, false, List, Option, Some, None, Contains, is_some, length, set, get_or, refl, sym, ap, ◌∙◌}
 use Rattle.std.specs.Option.{option_map}
 use Rattle.std.proofs.lemmas.Bool.{cases_eq}
 use Rattle.std.proofs.lemmas.List.{get_or-set_other, get_or-set_same}
-use Rattle.number_links.specs.Facts.{Facts, Learned, learned, nothing, told}
+use Rattle.number_links.specs.Facts.{Facts, Learned, learned, told}
 use Rattle.number_links.specs.Known.{Known, known}
 
 -- something is known just where links are
@@ -63,10 +63,6 @@ module _ (facts now : Facts) (n : ℕ) (to : List ℕ) (time : ℕ) (room : List
       let differs : true ≡ false = sym there ∙ out ∙ gone in
       let wrong : ⊥ = cc in wrong))
 
--- room was made for a time, and nothing was learned
-pub learned_roomed : (facts : Facts) (links : Known) (room : List ℕ) → ((q : ℕ) → known links q ≡ known facts.links q) → ((i : ℕ) → get_or room i 0 ≡ get_or facts.times i 0) → (q : ℕ) → learned (record { links = links; times = room }) q ≡ learned facts q
-learned_roomed facts links room same words q = learned_same facts (record { links = links; times = room }) q (same q) (words q)
-
 -- a number is renewed
 pub learned_left : (facts : Facts) (links : Known) (n : ℕ) → ((q : ℕ) (ms : List ℕ) → known links q ≡ Some ms → (known facts.links q ≡ Some ms) × (q ≢ n) × (Contains ms n → ⊥))
     → (q : ℕ) (one : Learned ℕ) → learned (record { links = links; times = facts.times }) q ≡ Some one → (learned facts q ≡ Some one) × (q ≢ n) × (Contains one.links n → ⊥)
@@ -79,17 +75,9 @@ learned_left facts links n gone q one is =
       left.2,
     )
 
--- some numbers are known to lead to nothing
-pub learned_rests : {P : Type 0} (facts : Facts) (links : Known) (q : ℕ) → ((ms : List ℕ) → known links q ≡ Some ms → (known facts.links q ≡ Some ms) ⊎ ((ms ≡ []) × P))
-    → (one : Learned ℕ) → learned (record { links = links; times = facts.times }) q ≡ Some one → (learned facts q ≡ Some one) ⊎ ((one ≡ nothing) × P)
-learned_rests {P} facts links q only one is = by (only one.links parts.0)
-  where
-    now : Facts
-    now = record { links = links; times = facts.times }
-
-    parts : (known links q ≡ Some one.links) × (one ≡ told one.links (get_or facts.times q 0))
-    parts = links_learned now q one is
-
-    by : (known facts.links q ≡ Some one.links) ⊎ ((one.links ≡ []) × P) → (learned facts q ≡ Some one) ⊎ ((one ≡ nothing) × P)
-    by (inl before) = inl (learned_same now facts q (before ∙ sym parts.0) refl ∙ is)
-    by (inr rests) = inr (parts.1 ∙ ap (λ ms. told ms (get_or facts.times q 0)) rests.0, rests.1)
+-- and what does not lead to it stays, if its links do
+pub learned_yet : (facts : Facts) (links : Known) (n : ℕ) → ((q : ℕ) (ms : List ℕ) → known facts.links q ≡ Some ms → q ≢ n → (Contains ms n → ⊥) → known links q ≡ Some ms)
+    → (q : ℕ) (one : Learned ℕ) → learned facts q ≡ Some one → q ≢ n → (Contains one.links n → ⊥) → learned (record { links = links; times = facts.times }) q ≡ Some one
+learned_yet facts links n stays q one is apart away =
+    let here = (links_learned facts q one is).0 in
+    learned_same facts (record { links = links; times = facts.times }) q (stays q one.links here apart away ∙ sym here) refl ∙ is

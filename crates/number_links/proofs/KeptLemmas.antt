@@ -7,11 +7,10 @@ use Rattle.std.proofs.lemmas.Bool.{not-true}
 use Rattle.std.proofs.lemmas.List.Elements.{All-filter, All-same, All-weaker, filter_passes}
 use Rattle.number_sets.specs.Numbers.{has}
 use Rattle.number_links.specs.Kept.{IsAllLedTo, IsKept}
-use Rattle.number_links.specs.Known.{Known, RestsOrIsKnown, known, linked}
+use Rattle.number_links.specs.Known.{Known, known, linked}
 use Rattle.number_links.specs.declared.kept.Kept.{Kept}
 use Rattle.number_links.specs.Reach.{IsReached, Root, Next}
 use Rattle.number_links.proofs.SeeingLemmas.{sole_there}
-use Rattle.number_links.proofs.PastLemmas.{reached_allowed}
 
 -- whatever is allowed, all that is reached is in the set
 pub all_led : (links : Known) (roots : List ℕ) (among allowed : ℕ → Bool) → IsAllLedTo links roots among → (n : ℕ) → IsReached (linked links) allowed roots n → among n ≡ true
@@ -78,10 +77,6 @@ pub reached_anyhow : (next now : ℕ → List ℕ) (allowed : ℕ → Bool) (roo
 reached_anyhow next now allowed roots same _ (Root n root there) = Root n root refl
 reached_anyhow next now allowed roots same _ (Next from n reached linked_to there) = Next from n (reached_anyhow next now allowed roots same from reached) (subst (λ ms. Contains ms n) (sym (same from)) linked_to) refl
 
--- a number of which nothing was known is learned
-pub unless_known : (links now : Known) (n : ℕ) → known links n ≡ None → ((q : ℕ) → q ≢ n → known now q ≡ known links q) → (q : ℕ) → is_some (known links q) ≡ true → known now q ≡ known links q
-unless_known links now n none stays q is = stays q (λ same. (let differs : true ≡ false = sym is ∙ ap (λ m. is_some (known links m)) same ∙ ap is_some none in let wrong : ⊥ = cc in wrong))
-
 -- ---- all that are kept
 pub all_more : (links now : Known) → ((q : ℕ) → is_some (known links q) ≡ true → known now q ≡ known links q) → (ks : List Kept) → All (IsKept links) ks → All (IsKept now) ks
 all_more links now stays ks are = All-weaker (IsKept links) (IsKept now) (λ one is. kept_more links now (one.root ∷ []) (has one.reached) stays is) ks are
@@ -114,13 +109,3 @@ kept_made links now root among allowed itself reached stays only are_known close
     weaker : (q : ℕ) (ms : List ℕ) → (known links q ≡ Some ms) ⊎ ((among q ≡ true) × (ms ≡ []) × (known links q ≡ None)) → (known links q ≡ Some ms) ⊎ (ms ≡ [])
     weaker q ms (inl before) = inl before
     weaker q ms (inr learned) = inr learned.1
-
--- what was not known and was reached rests
-pub rested : (links : Known) (rests allowed among : ℕ → Bool) (roots : List ℕ) → ((n : ℕ) → among n ≡ true → IsReached (linked links) allowed roots n) → ((n : ℕ) → among n ≡ true → RestsOrIsKnown links rests n)
-    → (q : ℕ) (ms : List ℕ) → (known links q ≡ Some ms) ⊎ ((among q ≡ true) × (ms ≡ []) × (known links q ≡ None)) → (known links q ≡ Some ms) ⊎ ((ms ≡ []) × (allowed q ≡ true) × (rests q ≡ true))
-rested links rests allowed among roots reached clear q ms (inl before) = inl before
-rested links rests allowed among roots reached clear q ms (inr learned) = inr (learned.1, reached_allowed (linked links) allowed roots q (reached q learned.0), by (clear q learned.0))
-  where
-    by : RestsOrIsKnown links rests q → rests q ≡ true
-    by (inl rest) = rest
-    by (inr is) = absurd (let differs : ⊥ = (let none = learned.2 in cc) in differs)

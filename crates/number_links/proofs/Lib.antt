@@ -1,6 +1,10 @@
+pub mod BestLemmas
 pub mod CountLemmas
+pub mod DescentLemmas
 pub mod FactLemmas
+pub mod GenerationLemmas
 pub mod KeptLemmas
+pub mod KeyLemmas
 pub mod LearnLemmas
 pub mod OptionLemmas
 pub mod PackLemmas

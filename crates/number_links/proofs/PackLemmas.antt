@@ -13,18 +13,6 @@ pub record Packs (clock : ℕ) (renewed begins pool : List ℕ) (count : ℕ) (n
   pub long : length now_begins ≡ count
   pub same : (q : ℕ) → q < count → told renewed now_pool (get_or now_begins q 4294967295) ≡ told renewed pool (get_or begins q 4294967295)
 
--- none was copied yet
-pub packs_none : (clock : ℕ) (renewed begins pool now_begins now_pool : List ℕ) → AreRecords clock renewed begins pool → now_begins ≡ [] → now_pool ≡ [] → Packs clock renewed begins pool 0 now_begins now_pool
-packs_none clock renewed begins pool now_begins now_pool are no_begins no_pool = record {
-  are = record {
-    by_now = are.by_now;
-    few = (let none : length now_pool ≡ 0 = ap length no_pool in omega arith);
-    records = λ n one other. absurd (one (ap (λ ns. get_or ns n 4294967295) no_begins));
-  };
-  long = ap length no_begins;
-  same = λ q below. absurd (omega arith);
-}
-
 -- one more
 pub packs_more : (clock : ℕ) (renewed begins pool : List ℕ) (count : ℕ) (now_begins now_pool new_pool : List ℕ) (begin now : ℕ) → Packs clock renewed begins pool count now_begins now_pool → begin ≡ get_or begins count 4294967295
     → IsCopied clock renewed pool begin now_pool new_pool now → Packs clock renewed begins pool (count + 1) (now_begins ++ now ∷ []) new_pool

@@ -80,14 +80,6 @@ pub none_waits : (waits : List ℕ) (len : ℕ) → len ≡ length waits → len
 none_waits [] len is none = refl
 none_waits (n ∷ ns) len is none = absurd (omega arith)
 
--- nothing waits: all that is seen was followed
-pub walks_clear : (clear : ℕ → Type 0) (next : ℕ → List ℕ) (allowed : ℕ → Bool) (roots : List ℕ) (seen : ℕ → Bool) (waits : List ℕ) → waits ≡ [] → Walks clear next allowed roots seen waits → (n : ℕ) → seen n ≡ true → clear n
-walks_clear clear next allowed roots seen waits none walks n is =
-    elim (walks.closed n is) [
-      | inl waiting ↦ absurd (none_there n (subst (λ w. Contains w n) none waiting))
-      | inr done ↦ done.0
-    ]
-
 -- the last of those that wait is reached
 pub last_reached : (clear : ℕ → Type 0) (next : ℕ → List ℕ) (allowed : ℕ → Bool) (roots : List ℕ) (seen : ℕ → Bool) (waits rest : List ℕ) (last : ℕ) → waits ≡ rest ++ last ∷ [] → Walks clear next allowed roots seen waits → IsReached next allowed roots last
 last_reached clear next allowed roots seen waits rest last popped walks = walks.reached last (walks.noted last (subst (λ w. Contains w last) (sym popped) (Contains-append_right rest (last ∷ []) last (sole last))))

@@ -1,4 +1,7 @@
+pub mod Bases
+pub mod Descent
 pub mod Facts
+pub mod Generations
 pub mod Kept
 pub mod Known
 pub mod Reach

@@ -1,6 +1,7 @@
-ghost use Rattle.std.specs.Prelude.{◌≡◌, ◌≢◌, ◌⊎◌, ◌↔◌, ℕ, List, [], Some, None, true, is_some, IfOk, IfSome, IfNone, OnOk, All, Contains};
+ghost use Rattle.std.specs.Prelude.{◌≡◌, ◌≢◌, ◌⊎◌, ◌↔◌, ℕ, List, [], ◌∷◌, Some, None, true, is_some, IfOk, IfSome, IfNone, OnOk, All, Contains};
 ghost use Rattle.std.specs.Option.{option_map};
 ghost use Rattle.number_sets.specs.Numbers.{has};
+ghost use Rattle.number_links.specs.Bases.{IsBest};
 ghost use Rattle.number_links.specs.Facts.{Learned, goes_on, learned, nothing, told};
 ghost use Rattle.number_links.specs.Kept.{IsKept};
 ghost use Rattle.number_links.specs.Known.{RestsOrIsKnown, known};
@@ -8,6 +9,10 @@ ghost use Rattle.number_links.specs.Reach.{IsReached, ReachesUnknown};
 ghost use Rattle.number_links.specs.declared.along.Along.TheVariants.{Links as along_links, Parents as along_parents};
 
 use crate::along::{Along, time_beside};
+use crate::climbing::climb_all;
+use crate::descent::bases;
+use crate::generations::Generations;
+use crate::ground::Ground;
 use crate::keeping::keep_all;
 use crate::kept::{Kept, let_go};
 use crate::links::Links;
@@ -20,24 +25,27 @@ use std::alloc::{AllocError, Global};
 use std::marker::Model;
 
 /// The links of numbers, and the times of commits, as far as they are known. For some numbers, the set of all that
-/// they reach is kept, so that it need not be walked again.
+/// they reach is kept, so that it need not be walked again. Some commits have generation numbers (topological levels, as in
+/// Git's commit-graph), by which common ancestors are found.
 #[derive(Drop)]
 pub struct Graph {
     links: Links,
     times: Times,
     kept: Vec<Kept>,
+    generations: Generations,
 }
 
 impl Model for Graph {
     ghost use Rattle.std.specs.Prelude.{All};
     ghost use Rattle.number_links.specs.Facts.{Facts};
+    ghost use Rattle.number_links.specs.Generations.{AreGenerations};
     ghost use Rattle.number_links.specs.Kept.{IsKept};
 
     ghost Value = { Facts };
 
     ghost view = { λ a. record { links = a.links; times = a.times } };
 
-    ghost invariant = { λ a. All (IsKept a.links) a.kept.items };
+    ghost invariant = { λ a. All (IsKept a.links) a.kept.items × AreGenerations (record { links = a.links; times = a.times }) a.generations };
 }
 
 impl Graph {
@@ -49,6 +57,7 @@ impl Graph {
             links: Links::new(alloc),
             times: Times::new(alloc),
             kept: Vec::new(alloc),
+            generations: Generations::new(alloc),
         }
     }
 
@@ -75,14 +84,20 @@ impl Graph {
         note(&mut self.links, &mut self.times, n, to, time)
     }
 
-    /// The number is to be another name's, or nobody's. It allocates nothing.
-    pub fn renew(&mut self, n: u32)
+    /// The number is to be another name's, or nobody's. It allocates nothing. Returns whether everything else that was
+    /// known still is.
+    pub fn renew(&mut self, n: u32) -> bool
         ensures gone { (q : ℕ) (one : Learned ℕ) → learned self.new q ≡ Some one → (learned self.old q ≡ Some one) × (q ≢ n) × (Contains one.links n → ⊥) }
+        ensures stays { result ≡ true → (q : ℕ) (one : Learned ℕ) → learned self.old q ≡ Some one → q ≢ n → (Contains one.links n → ⊥) → learned self.new q ≡ Some one }
     {
         let_go(&mut self.kept, n);
+        self.generations.let_go(n);
         if !self.links.renew(n) {
             self.kept.clear();
+            self.generations.clear();
+            return false;
         }
+        true
     }
 
     /// Keeps the sets of all that the first 8 of these numbers reach. A set is kept if all of it is allowed, if all links in it
@@ -104,6 +119,35 @@ impl Graph {
             resting,
             roots,
         );
+    }
+
+    /// Gives these commits and their ancestors generation numbers, as far as their links are known. A commit that has one
+    /// costs nothing. Stops early if memory runs out.
+    pub fn learn_generations(&mut self, alloc: Global, from: &[u32])
+        ensures { self.new ≡ self.old }
+    {
+        climb_all(alloc, &self.links, &self.times, &mut self.generations, from);
+    }
+
+    /// The best common ancestors of two numbers, or `None` if one of the two has no generation number, as when its links or
+    /// those of an ancestor are not known, or memory ran out.
+    pub fn bases(
+        &self,
+        alloc: Global,
+        allowed: &NumberSet,
+        a: u32,
+        b: u32,
+    ) -> Result<Option<NumberSet>, AllocError>
+        ensures found { IfOk result (λ r. IfSome r (λ found. (n : ℕ) → (has found n ≡ true) ↔ IsBest (goes_on along_parents self.now) (has allowed.now) a b n)) }
+        ensures known { IfOk result (λ r. IfSome r (λ found. (n : ℕ) → IsReached (goes_on along_parents self.now) (has allowed.now) (a ∷ []) n ⊎ IsReached (goes_on along_parents self.now) (has allowed.now) (b ∷ []) n → is_some (known self.now.links n) ≡ true)) }
+    {
+        let ground = Ground {
+            links: &self.links,
+            times: &self.times,
+            generations: &self.generations,
+            allowed,
+        };
+        bases(alloc, &ground, a, b)
     }
 
     /// The numbers that the wanted ones reach and the excluded ones do not, or `None` if either reach one that neither

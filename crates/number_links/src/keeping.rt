@@ -1,5 +1,5 @@
 // Keeps the sets of all that numbers reach.
-ghost use Rattle.std.specs.Prelude.{◌≡◌, ◌⊎◌, ℕ, List, [], Some, All, true};
+ghost use Rattle.std.specs.Prelude.{◌≡◌, ◌⊎◌, ℕ, List, [], Some, All, true, is_some};
 ghost use Rattle.number_sets.specs.Numbers.{has};
 ghost use Rattle.number_links.specs.Kept.{IsKept};
 ghost use Rattle.number_links.specs.Known.{known};
@@ -29,6 +29,7 @@ fn keep_one<R: Resting>(
 )
     requires { All (IsKept links.old) kept.old.items }
     ensures kept { All (IsKept links.new) kept.new.items }
+    ensures stays { (q : ℕ) → is_some (known links.old q) ≡ true → known links.new q ≡ known links.old q }
     ensures only { (q : ℕ) (ms : List ℕ) → known links.new q ≡ Some ms → (known links.old q ≡ Some ms) ⊎ ((ms ≡ []) × (has allowed.now q ≡ true) × (R.rests resting.now q ≡ true)) }
 {
     let mut count = 0;
@@ -66,6 +67,7 @@ pub(crate) fn keep_all<R: Resting>(
 )
     requires { All (IsKept links.old) kept.old.items }
     ensures kept { All (IsKept links.new) kept.new.items }
+    ensures stays { (q : ℕ) → is_some (known links.old q) ≡ true → known links.new q ≡ known links.old q }
     ensures only { (q : ℕ) (ms : List ℕ) → known links.new q ≡ Some ms → (known links.old q ≡ Some ms) ⊎ ((ms ≡ []) × (has allowed.now q ≡ true) × (R.rests resting.now q ≡ true)) }
 {
     for at in 0..roots.len().min(MOST_ROOTS) {

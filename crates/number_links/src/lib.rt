@@ -3,11 +3,17 @@
 #![tactic(auto)]
 
 mod along;
+mod climbing;
+mod descent;
+mod generations;
 mod graph;
+mod ground;
 mod keeping;
 mod kept;
+mod keys;
 mod links;
 mod lists;
+mod marking;
 mod noting;
 mod packing;
 mod records;
@@ -15,6 +21,7 @@ mod resting;
 mod settling;
 mod taking;
 mod times;
+mod waiting;
 mod walking;
 
 pub use crate::along::Along;

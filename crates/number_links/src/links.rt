@@ -49,6 +49,13 @@ impl Links {
         }
     }
 
+    // No more numbers than these have links that are known.
+    pub(crate) fn room(&self) -> usize
+        ensures { result ≡ length self.now }
+    {
+        self.begins.len()
+    }
+
     /// The links of a number, if they are known.
     pub fn of(&self, n: u32) -> Option<&[u32]>
         ensures some { IfSome result (λ to. known self.now n ≡ Some to.now) }

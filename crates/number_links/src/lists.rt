@@ -1,5 +1,5 @@
 // Lists of words by number. A number after the end has a default word.
-ghost use Rattle.std.specs.Prelude.{◌≡◌, ◌<◌, ◌≤◌, ℕ, All, OnOk, get_or, set, length};
+ghost use Rattle.std.specs.Prelude.{◌≡◌, ◌<◌, ◌≤◌, ◌⊎◌, ℕ, All, OnOk, get_or, set, length};
 
 use std::alloc::AllocError;
 
@@ -30,6 +30,7 @@ pub(crate) fn lengthen(words: &mut Vec<u32>, n: u32, default: u32) -> Result<(),
     ensures words { (i : ℕ) → get_or words.new.items i default ≡ get_or words.old.items i default }
     ensures ok { OnOk result (n < length words.new.items) }
     ensures longer { length words.old.items ≤ length words.new.items }
+    ensures few { length words.old.items ≤ 4294967296 → length words.new.items ≤ 4294967296 }
 {
     let at = n as usize;
     if at < words.len() {
@@ -50,8 +51,8 @@ pub(crate) fn greatest(numbers: &[u32]) -> u32
 }
 
 // The larger of two numbers.
-fn larger(a: u32, b: u32) -> u32
-    ensures { (a ≤ result) × (b ≤ result) }
+pub(crate) fn larger(a: u32, b: u32) -> u32
+    ensures { (a ≤ result) × (b ≤ result) × ((result ≡ a) ⊎ (result ≡ b)) }
 {
     if a < b {
         return b;

@@ -3,7 +3,7 @@ use Rattle.std.proofs.Common.{◌≡◌, ◌≢◌, ◌⊎◌, inl, inr, ℕ, ze
 use Rattle.std.specs.List.{AllByRecursion, IsDistinct}
 use Rattle.std.specs.Map.{keys_of, lookup}
 use Rattle.std.specs.Option.{option_and_then, option_map, option_map_or}
-use Rattle.std.specs.FinMap.{from_entries, get, same_map}
+use Rattle.std.specs.FinMap.{contains_key, from_entries, get, same_map}
 use Rattle.std.proofs.lemmas.Cmp.{nat_list_eq_equiv}
 use Rattle.git_name.specs.Name.{name_cmp}
 use Rattle.git_name.specs.Same.{same_name}
@@ -152,6 +152,19 @@ learned_named rows links after name row to are here only q names is = by (row_in
                 (let both : Some (learned_as (numbered_name rows) ms) ≡ Some names = led in
                 let one : learned_as (numbered_name rows) ms ≡ names = cc in
                 inr (one_name q name (are.numbers q name other row there here now.0), sym one ∙ ap (learned_as (numbered_name rows)) now.1))
+
+-- and what was known of the others stays
+some_mapped : (f : ℕ → List ℕ) (o : Option (Learned ℕ)) → is_some (option_map (learned_as f) o) ≡ is_some o
+some_mapped f None = refl
+some_mapped f (Some one) = refl
+
+pub stays_named : (rows : Rows) (links after : Facts) → AreRows rows → ((n : ℕ) → is_some (learned links n) ≡ true → learned after n ≡ learned links n)
+    → (q : List ℕ) → contains_key (named_links rows links) q ≡ true → get (named_links rows after) q ≡ get (named_links rows links) q
+stays_named rows links after are kept q there = get_named rows after q are.distinct ∙ by (row_in rows q) (sym (ap is_some (get_named rows links q are.distinct)) ∙ there) ∙ sym (get_named rows links q are.distinct)
+  where
+    by : (o : Option Row) → is_some (option_and_then (led_from rows links) o) ≡ true → option_and_then (led_from rows after) o ≡ option_and_then (led_from rows links) o
+    by None known = refl
+    by (Some row) known = ap (option_map (learned_as (numbered_name rows))) (kept row.number (sym (some_mapped (numbered_name rows) (learned links row.number)) ∙ known))
 
 pub learned_links : (rows : Rows) (links after : Facts) (name : List ℕ) (row : Row) (to : Learned ℕ) → AreLinks rows links → row_in rows name ≡ Some row → ((m : ℕ) → Contains to.links m → IsUsed rows m)
     → ((n : ℕ) (ms : Learned ℕ) → learned after n ≡ Some ms → (learned links n ≡ Some ms) ⊎ ((n ≡ row.number) × (ms ≡ to))) → AreLinks rows after

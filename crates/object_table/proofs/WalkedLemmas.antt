@@ -4,6 +4,7 @@ use Rattle.std.specs.Option.{option_and_then, option_map, option_map_or, unwrap_
 use Rattle.std.specs.FinMap.{contains_key, get}
 use Rattle.git_name.proofs.Names.{name_exact, name_total}
 use Rattle.fork_reach.specs.Reach.{IsReached, Root, Next}
+use Rattle.number_links.specs.Bases.{IsBest as IsBestNumber, IsCommon as IsCommonNumber}
 use Rattle.number_links.specs.Facts.{Facts, Learned, goes_from, goes_on, learned, learned_as, nothing, time_beside, told as told_by}
 use Rattle.number_links.specs.Known.{known}
 use Rattle.number_links.specs.declared.along.Along.{Along}
@@ -16,7 +17,7 @@ use Rattle.object_table.specs.declared.word.Word.{Word}
 use Rattle.object_table.specs.Links.{AreLinks, leads_nowhere, led_from, named_links, next_along, numbered_name, rests_in}
 use Rattle.object_table.specs.Rows.{AreRows, IsUsed, Rows, row_in}
 use Rattle.object_table.specs.Views.{IsOwn, Sets, holds, word_by, word_in, words_of}
-use Rattle.object_table.specs.Walked.{IsBetween, IsMet}
+use Rattle.object_table.specs.Walked.{IsBest, IsBetween, IsCommon, IsMet}
 use Rattle.object_table.specs.Words.{Words, is_visible, kept_as, words_that}
 use Rattle.object_table.proofs.ChosenLemmas.{get_chosen}
 use Rattle.object_table.proofs.LinkLemmas.{get_named, named_is, numbered_is}
@@ -159,14 +160,18 @@ module _ (rows : Rows) (own : Sets) (links : Facts) (are : AreRows rows) (is_own
       sym used.same ∙ ap (λ (r : Row). r.number) one)
 
   -- what is known of a number is known of its name
-  told : (q : List ℕ) (row : Row) → row_in rows q ≡ Some row → has own.visible row.number ≡ true → (rests_in rows row.number ≡ true) ⊎ (is_some (known links.links row.number) ≡ true)
-      → (option_map_or (λ (word : Word). leads_nowhere word.kind) (get (Seen rows own) q) false ≡ true) ⊎ (contains_key (named_links rows links) q ≡ true)
-  told q row here seen (inl rests) = inl (kind_seen q row here seen ∙ sym (rests_row q row here) ∙ rests)
-  told q row here seen (inr knows) = inr (ap is_some (led_row q row here) ∙ by (learned links row.number) ∙ some_learned links row.number ∙ knows)
+  knows : (q : List ℕ) (row : Row) → row_in rows q ≡ Some row → is_some (known links.links row.number) ≡ true → contains_key (named_links rows links) q ≡ true
+  knows q row here is = ap is_some (led_row q row here) ∙ by (learned links row.number) ∙ some_learned links row.number ∙ is
     where
       by : (o : Option (Learned ℕ)) → is_some (option_map (learned_as (numbered_name rows)) o) ≡ is_some o
       by None = refl
       by (Some to) = refl
+
+  -- and so is what rests
+  told : (q : List ℕ) (row : Row) → row_in rows q ≡ Some row → has own.visible row.number ≡ true → (rests_in rows row.number ≡ true) ⊎ (is_some (known links.links row.number) ≡ true)
+      → (option_map_or (λ (word : Word). leads_nowhere word.kind) (get (Seen rows own) q) false ≡ true) ⊎ (contains_key (named_links rows links) q ≡ true)
+  told q row here seen (inl rests) = inl (kind_seen q row here seen ∙ sym (rests_row q row here) ∙ rests)
+  told q row here seen (inr is) = inr (knows q row here is)
 
   module _ (roots : List (List ℕ)) (numbers : List ℕ) (only : (n : ℕ) → Contains numbers n → IsUsed rows n × Contains roots (numbered_name rows n)) (all : (name : List ℕ) (row : Row) → Contains roots name → row_in rows name ≡ Some row → Contains numbers row.number) where
     goes_seen : (n : ℕ) → Goes nextn (has own.visible) numbers n → has own.visible n ≡ true
@@ -209,6 +214,10 @@ module _ (rows : Rows) (own : Sets) (links : Facts) (are : AreRows rows) (is_own
         reached_seen _ (Root p root there) = there
         reached_seen _ (Next from p before leads there) = there
 
+  reached_row : (roots : List (List ℕ)) (q : List ℕ) → IsReached next (Seen rows own) roots q → (row : Row) × (row_in rows q ≡ Some row) × (has own.visible row.number ≡ true)
+  reached_row roots _ (Root q root there) = seen_row q there
+  reached_row roots _ (Next from q before leads there) = seen_row q there
+
   -- ---- between wanted and excluded names
   module _ (wanted excluded : List (List ℕ)) (ns ms : List ℕ)
       (only : (n : ℕ) → Contains ns n → IsUsed rows n × Contains wanted (numbered_name rows n)) (all : (name : List ℕ) (row : Row) → Contains wanted name → row_in rows name ≡ Some row → Contains ns row.number)
@@ -224,10 +233,6 @@ module _ (rows : Rows) (own : Sets) (links : Facts) (are : AreRows rows) (is_own
           left = λ out. (is row.number found_it).1 (named_goes excluded ms only_out all_out q out row here);
         }
 
-    reached_row : (roots : List (List ℕ)) (q : List ℕ) → IsReached next (Seen rows own) roots q → (row : Row) × (row_in rows q ≡ Some row) × (has own.visible row.number ≡ true)
-    reached_row roots _ (Root q root there) = seen_row q there
-    reached_row roots _ (Next from q before leads there) = seen_row q there
-
     pub between_all : (found : ℕ → Bool) → ((n : ℕ) → Goes nextn (has own.visible) ns n → (Goes nextn (has own.visible) ms n → ⊥) → found n ≡ true)
         → (q : List ℕ) → IsBetween (Seen rows own) next wanted excluded q → option_map_or (λ (row : Row). found row.number) (row_in rows q) false ≡ true
     between_all found is q between =
@@ -240,6 +245,89 @@ module _ (rows : Rows) (own : Sets) (links : Facts) (are : AreRows rows) (is_own
         → (option_map_or (λ (word : Word). leads_nowhere word.kind) (get (Seen rows own) q) false ≡ true) ⊎ (contains_key (named_links rows links) q ≡ true)
     between_known is q (inl led) = (let here = reached_row wanted q led in told q here.0 here.1 here.2 (is here.0.number (inl (named_goes wanted ns only all q led here.0 here.1))))
     between_known is q (inr led) = (let here = reached_row excluded q led in told q here.0 here.1 here.2 (is here.0.number (inr (named_goes excluded ms only_out all_out q led here.0 here.1))))
+
+  -- ---- a step by names is one by numbers
+  leads_number : (from q : List ℕ) (first row : Row) → row_in rows from ≡ Some first → row_in rows q ≡ Some row → Contains (next from) q → Contains (nextn first.number) row.number
+  leads_number from q first row here is leads =
+      let found = mapped_from (numbered_name rows) (nextn first.number) q (subst (λ ns. Contains ns q) (next_row from first here) leads) in
+      subst (Contains (nextn first.number)) (one_number found.0 q row (next_used first.number found.0 found.1) found.2 is) found.1
+
+  leads_name : (from q : List ℕ) (first row : Row) → row_in rows from ≡ Some first → row_in rows q ≡ Some row → Contains (nextn first.number) row.number → Contains (next from) q
+  leads_name from q first row here is leads =
+      let led : Contains (next from) (numbered_name rows row.number) = subst (λ ns. Contains ns (numbered_name rows row.number)) (sym (next_row from first here)) (mapped_there (numbered_name rows) (nextn first.number) row.number leads) in
+      subst (Contains (next from)) (named_is rows q row are is) led
+
+  one_row : (q : List ℕ) (row other : Row) → row_in rows q ≡ Some row → row_in rows q ≡ Some other → row ≡ other
+  one_row q row other here is = (let both : Some row ≡ Some other = sym here ∙ is in cc)
+
+  -- ---- best common ancestors
+  module _ (a b : List ℕ) (first second : Row) (here_a : row_in rows a ≡ Some first) (here_b : row_in rows b ≡ Some second) where
+    sole : {A : Type 0} (x y : A) → Contains (x ∷ []) y → x ≡ y
+    sole x y (zero, l, same) = same
+    sole x y (suc k, l, same) = absurd (omega (arith, l))
+
+    sole_only : (q : List ℕ) (row : Row) → row_in rows q ≡ Some row → (n : ℕ) → Contains (row.number ∷ []) n → IsUsed rows n × Contains (q ∷ []) (numbered_name rows n)
+    sole_only q row here n among =
+        let same : row.number ≡ n = sole row.number n among in (
+          record { name = q; row = row; here = here; same = same },
+          (0, omega arith, sym (ap (numbered_name rows) (sym same) ∙ named_is rows q row are here)),
+        )
+
+    sole_all : (q : List ℕ) (row : Row) → row_in rows q ≡ Some row → (name : List ℕ) (other : Row) → Contains (q ∷ []) name → row_in rows name ≡ Some other → Contains (row.number ∷ []) other.number
+    sole_all q row here name other among is = (0, omega arith, ap (λ (r : Row). r.number) (one_row q row other here (ap (row_in rows) (sole q name among) ∙ is)))
+
+    named_common : (q : List ℕ) (row : Row) → row_in rows q ≡ Some row → IsCommonNumber nextn (has own.visible) first.number second.number row.number → IsCommon (Seen rows own) next a b q
+    named_common q row here common = (
+      goes_named (a ∷ []) (first.number ∷ []) (sole_only a first here_a) (sole_all a first here_a) row.number common.0 q row here refl,
+      goes_named (b ∷ []) (second.number ∷ []) (sole_only b second here_b) (sole_all b second here_b) row.number common.1 q row here refl,
+    )
+
+    common_numbers : (q : List ℕ) (row : Row) → row_in rows q ≡ Some row → IsCommon (Seen rows own) next a b q → IsCommonNumber nextn (has own.visible) first.number second.number row.number
+    common_numbers q row here common = (
+      named_goes (a ∷ []) (first.number ∷ []) (sole_only a first here_a) (sole_all a first here_a) q common.0 row here,
+      named_goes (b ∷ []) (second.number ∷ []) (sole_only b second here_b) (sole_all b second here_b) q common.1 row here,
+    )
+
+    pub best_only : (found : ℕ → Bool) → ((n : ℕ) → found n ≡ true → IsBestNumber nextn (has own.visible) first.number second.number n)
+        → (q : List ℕ) → option_map_or (λ (row : Row). found row.number) (row_in rows q) false ≡ true → IsBest (Seen rows own) next a b q
+    best_only found is q there = by (row_in rows q) refl there
+      where
+        by : (o : Option Row) → row_in rows q ≡ o → option_map_or (λ (row : Row). found row.number) o false ≡ true → IsBest (Seen rows own) next a b q
+        by None none found_it = (let differs : ⊥ = cc in absurd differs)
+        by (Some row) here found_it =
+            (let best = is row.number found_it in
+            record {
+              common = named_common q row here best.common;
+              alone = λ other common apart leads.
+                  let it = reached_row (a ∷ []) other common.0 in
+                  best.alone it.0.number (common_numbers other it.0 it.1 common)
+                  (λ same. apart (sym (named_is rows other it.0 are it.1) ∙ ap (numbered_name rows) same ∙ named_is rows q row are here))
+                  (leads_number other q it.0 row it.1 here leads);
+            })
+
+    pub best_all : (found : ℕ → Bool) → ((n : ℕ) → IsBestNumber nextn (has own.visible) first.number second.number n → found n ≡ true)
+        → (q : List ℕ) → IsBest (Seen rows own) next a b q → option_map_or (λ (row : Row). found row.number) (row_in rows q) false ≡ true
+    best_all found is q best =
+        let here = reached_row (a ∷ []) q best.common.0 in
+        ap (λ o. option_map_or (λ (row : Row). found row.number) o false) here.1
+        ∙ is here.0.number (record {
+          common = common_numbers q here.0 here.1 best.common;
+          alone = λ m common apart leads.
+              let used = is_own.within m (ap (λ v. v || has own.staged m) (goes_seen (a ∷ []) (first.number ∷ []) (sole_only a first here_a) (sole_all a first here_a) m common.0)) in
+              let named = named_common used.name used.row used.here (subst (IsCommonNumber nextn (has own.visible) first.number second.number) (sym used.same) common) in
+              best.alone used.name named
+              (λ same. apart (sym used.same ∙ ap (λ (r : Row). r.number) (one_row q used.row here.0 (ap (row_in rows) (sym same) ∙ used.here) here.1)))
+              (leads_name used.name q used.row here.0 used.here here.1 (subst (λ n. Contains (nextn n) here.0.number) (sym used.same) leads));
+        })
+
+    pub best_known : ((n : ℕ) → Goes nextn (has own.visible) (first.number ∷ []) n ⊎ Goes nextn (has own.visible) (second.number ∷ []) n → is_some (known links.links n) ≡ true)
+        → (q : List ℕ) → IsMet (Seen rows own) next (a ∷ []) (b ∷ []) q → contains_key (named_links rows links) q ≡ true
+    best_known is q (inl led) =
+        (let here = reached_row (a ∷ []) q led in
+        knows q here.0 here.1 (is here.0.number (inl (named_goes (a ∷ []) (first.number ∷ []) (sole_only a first here_a) (sole_all a first here_a) q led here.0 here.1))))
+    best_known is q (inr led) =
+        (let here = reached_row (b ∷ []) q led in
+        knows q here.0 here.1 (is here.0.number (inr (named_goes (b ∷ []) (second.number ∷ []) (sole_only b second here_b) (sole_all b second here_b) q led here.0 here.1))))
 
   -- ---- what is known once all that some names lead to is kept
   module _ (after : Facts) (only : (n : ℕ) (ms : Learned ℕ) → learned after n ≡ Some ms → (learned links n ≡ Some ms) ⊎ ((ms ≡ nothing) × (has own.visible n ≡ true) × (rests_in rows n ≡ true))) where

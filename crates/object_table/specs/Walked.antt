@@ -1,5 +1,5 @@
 -- What links, or parents, lead to from names on, among what a tenant sees (own).
-use Rattle.std.specs.Prelude.{◌⊎◌, List, ℕ}
+use Rattle.std.specs.Prelude.{◌⊎◌, ◌≢◌, List, [], ◌∷◌, Contains, ℕ}
 use Rattle.fork_reach.specs.Reach.{IsReached}
 use Rattle.object_table.specs.Words.{Words}
 
@@ -15,3 +15,12 @@ pub record IsBetween (words : Words) (next : List ℕ → List (List ℕ)) (want
 -- it is led to from one of either
 abbrev pub IsMet : Words → (List ℕ → List (List ℕ)) → List (List ℕ) → List (List ℕ) → List ℕ → Type 0
 IsMet words next wanted excluded name = IsLedTo words next wanted name ⊎ IsLedTo words next excluded name
+
+-- it is a common ancestor of two
+abbrev pub IsCommon : Words → (List ℕ → List (List ℕ)) → List ℕ → List ℕ → List ℕ → Type 0
+IsCommon words next a b name = IsLedTo words next (a ∷ []) name × IsLedTo words next (b ∷ []) name
+
+-- it is a best one: no other common one has it as a parent
+pub record IsBest (words : Words) (next : List ℕ → List (List ℕ)) (a b name : List ℕ) : Type 0 where
+  pub common : IsCommon words next a b name
+  pub alone : (other : List ℕ) → IsCommon words next a b other → other ≢ name → Contains (next other) name → ⊥

@@ -12,7 +12,7 @@ ghost use Rattle.object_table.specs.Clashes.{AreAs, Clash};
 ghost use Rattle.object_table.specs.Holders.{AreHeld, holders_of, is_held_in};
 ghost use Rattle.object_table.specs.Ledgers.{at_ledger, ledger_at, with_ledger, word_at};
 ghost use Rattle.object_table.specs.Links.{AreLinks, KnowsNoMore, KeepsNumbers, leads_nowhere, named_links, next_named, numbered_name, parents_named};
-ghost use Rattle.object_table.specs.Walked.{IsBetween, IsMet};
+ghost use Rattle.object_table.specs.Walked.{IsBest, IsBetween, IsMet};
 ghost use Rattle.object_table.specs.Rows.{IsUsed, LooksNextAt, places_of, row_in};
 ghost use Rattle.object_table.specs.declared.row.Row.{Row};
 ghost use Rattle.number_links.specs.Facts.{Learned, learned, nothing, told};
@@ -20,6 +20,7 @@ ghost use Rattle.object_table.specs.Totals.{capped, total_of, used_by};
 ghost use Rattle.object_table.specs.Views.{all_words};
 ghost use Rattle.object_table.specs.Words.{discarded_words, is_staged, is_visible, kept_words, published_words, staged_words, words_that};
 
+use crate::bases::base_names;
 use crate::coming::{coming, use_with_coming, word_under};
 use crate::describing::{describe_all, is_as};
 use crate::entry::Entry;
@@ -70,6 +71,7 @@ impl Holdings {
     pub fn over(alloc: Global, hashing: Hashing, names: &[Name]) -> Result<Holdings, AllocError>
         ensures ledgers { IfOk result (λ h. h.ledgers ≡ map.empty) }
         ensures listed { IfOk result (λ h. (q : List ℕ) → is_listed (places_of h.catalogue).names q ≡ is_listed names.now q) }
+        ensures names { IsDistinct same_name names.now → IfOk result (λ h. (places_of h.catalogue).names ≡ names.now) }
         ensures place { IfOk result (λ h. (places_of h.catalogue).place ≡ 0) }
         ensures links { IfOk result (λ h. (q : List ℕ) → map.get h.links q ≡ None) }
     {
@@ -316,6 +318,7 @@ impl Holdings {
         ensures ledgers { self.new.ledgers ≡ self.old.ledgers }
         ensures catalogue { self.new.catalogue ≡ self.old.catalogue }
         ensures links { (q : List ℕ) (one : Learned (List ℕ)) → map.get self.new.links q ≡ Some one → (map.get self.old.links q ≡ Some one) ⊎ ((q ≡ name) × (one ≡ told to.now time)) }
+        ensures stays { (q : List ℕ) → map.contains_key self.old.links q ≡ true → map.get self.new.links q ≡ map.get self.old.links q }
     {
         let Some(row) = self.table.row(name) else {
             return;
@@ -385,6 +388,26 @@ impl Holdings {
             return Ok(None);
         };
         names_in_history(alloc, &self.table, &self.links, own, wanted, excluded)
+    }
+
+    /// The names of the best common ancestors of two commits among what a tenant sees; `None` if the parents of one of their
+    /// ancestors are not known.
+    pub fn bases(
+        &mut self,
+        alloc: Global,
+        tenant: &TenantName,
+        a: Name,
+        b: Name,
+    ) -> Result<Option<IndexSet<Name, Hashing>>, AllocError>
+        ensures same { self.new ≡ self.old }
+        ensures only { IfOk result (λ found. IfSome found (λ names. (name : List ℕ) → contains same_name names name ≡ true → IsBest (words_that is_visible (ledger_at self.old.ledgers tenant.now)) (parents_named self.old.links) a b name)) }
+        ensures all { IfOk result (λ found. IfSome found (λ names. (name : List ℕ) → IsBest (words_that is_visible (ledger_at self.old.ledgers tenant.now)) (parents_named self.old.links) a b name → contains same_name names name ≡ true)) }
+        ensures known { IfOk result (λ found. IfSome found (λ names. (name : List ℕ) → IsMet (words_that is_visible (ledger_at self.old.ledgers tenant.now)) (parents_named self.old.links) (a ∷ []) (b ∷ []) name → map.contains_key self.old.links name ≡ true)) }
+    {
+        let Some(own) = self.ledgers.get(tenant) else {
+            return Ok(None);
+        };
+        base_names(alloc, &self.table, &mut self.links, own, a, b)
     }
 
     /// The time of the object of a name, if its links are known: of a commit the seconds since 1970 plus 1, and of any
@@ -512,7 +535,7 @@ fn forget_in(table: &Table, links: &mut Graph, name: Name)
     let Some(row) = table.row(name) else {
         return;
     };
-    links.renew(row.number);
+    let _all = links.renew(row.number);
 }
 
 // Learns the links of the object of a row, by their numbers.
@@ -522,6 +545,7 @@ fn learn_row(table: &Table, links: &mut Graph, name: Name, row: Row, to: &[u32],
     requires used { (m : ℕ) → Contains to.now m → IsUsed table.now.entries m }
     ensures linked { AreLinks table.now.entries links.new }
     ensures links { (q : List ℕ) (one : Learned (List ℕ)) → map.get (named_links table.now.entries links.new) q ≡ Some one → (map.get (named_links table.now.entries links.old) q ≡ Some one) ⊎ ((q ≡ name) × (one ≡ told (mapped (numbered_name table.now.entries) to.now) time)) }
+    ensures stays { (q : List ℕ) → map.contains_key (named_links table.now.entries links.old) q ≡ true → map.get (named_links table.now.entries links.new) q ≡ map.get (named_links table.now.entries links.old) q }
 {
     table.invariant();
     let _name = name;
@@ -604,7 +628,7 @@ fn renew(table: &Table, links: &mut Graph, name: Name)
     let Some(row) = table.row(name) else {
         return;
     };
-    links.renew(row.number);
+    let _all = links.renew(row.number);
 }
 
 // Removes a name that nobody holds.

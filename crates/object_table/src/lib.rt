@@ -4,6 +4,7 @@
 //! places, and no numbers.
 #![tactic(auto)]
 
+mod bases;
 mod coming;
 mod describing;
 mod entry;

@@ -92,7 +92,7 @@ fn numbers_there(alloc: Global, table: &Table, names: &[Name]) -> Result<Vec<u32
 }
 
 // The names of these numbers.
-fn names_of(
+pub(crate) fn names_of(
     alloc: Global,
     table: &Table,
     numbers: &NumberSet,

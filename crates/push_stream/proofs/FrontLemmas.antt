@@ -23,7 +23,7 @@ use Rattle.push_stream.proofs.LineLemmas.{command_is, no_line_end}
 use Rattle.push_stream.proofs.PieceLemmas.{continued_in, header_grows}
 use Rattle.push_stream.proofs.SpellingLemmas.{IsRecordOf, record_is}
 
--- what stands before the end of a text
+-- what precedes the end of a text
 pub front_taken : (end text : List ℕ) → EndsIn end text → text ≡ take (length text - length end) text ++ end
 front_taken end text is =
     let all : length text ≡ length is.0 + length end = ap (λ (l : List ℕ). length l) is.1 ∙ length-append is.0 end in
@@ -31,7 +31,7 @@ front_taken end text is =
     let front : take (length text - length end) text ≡ is.0 = ap (λ n. take n text) size ∙ ap (take (length is.0)) is.1 ∙ take-append_seam is.0 end in
     is.1 ∙ ap (λ (l : List ℕ). l ++ end) (sym front)
 
--- no command stands at the front of no bytes
+-- an empty text begins with no command
 no_line : (command : Command) → command_at [] ≡ Ok (command, []) → ⊥
 unfolding command_at line_at
 no_line command is = cc
@@ -46,7 +46,7 @@ one_line room (b ∷ bs) command is =
 pub front_begun : (room : ℕ) (text : List ℕ) (none : List Command) → none ≡ [] → HasFront room text none false text
 front_begun room text none is = ([], refl, ap (λ (commands : List Command). Flows commands [] false []) (sym is))
 
--- a command's line more
+-- one more command line
 pub front_more : (room : ℕ) (text left others : List ℕ) (commands more : List Command) (command : Command) → length commands < room → HasFront room text commands false left → command_at left ≡ Ok (command, others) → more ≡ commands ++ command ∷ []
     → HasFront room text more false others
 front_more room text left others commands more command few so_far taken grown =
@@ -67,11 +67,11 @@ front_ends room text left records commands so_far is = (
   sym (header_grows room so_far.0 (10 ∷ [])) ∙ ap (λ s. continued_in room s (10 ∷ [])) so_far.2 ∙ ap (behind commands []) (step_end (room - length commands) 10 [] refl) ∙ ap (λ (all : List Command). Flows all [] true []) (append-nil commands),
 )
 
--- what stands before what is left is that front
+-- what precedes what is left is that front
 front_is : (room : ℕ) (text front left : List ℕ) (commands : List Command) (headed : Bool) → HasFront room text commands headed left → text ≡ front ++ left → header_in room front ≡ Flows commands [] headed []
 front_is room text front left commands headed has is = ap (header_in room) (append_cancel_right front has.0 left (sym is ∙ has.1)) ∙ has.2
 
--- a record more
+-- one more record
 pub record_more : (text left others : List ℕ) (objects more : List Object) (object : Object) → text ≡ records_of objects ++ left → record_at left ≡ Taken object others → more ≡ objects ++ object ∷ []
     → text ≡ records_of more ++ others
 record_more text left others objects more object so_far taken grown =
@@ -94,7 +94,7 @@ pub headed_front : (r : Result Added BodyError) (headed : Bool) (had : ℕ) (hea
 headed_front (Ok added) headed had header commands same asked met is = ap (added_in headed had) same ∙ is ∙ ap₂ (λ (cs : List Command) (h : Bool). Flows cs [] h []) (sym asked) (sym met)
 headed_front (Err error) headed had header commands same asked met is = tt
 
--- what two texts spell, of which the first ends where a record ends
+-- what two texts spell, if the first ends where a record ends
 pub spelled_join : (first second left rest : List ℕ) (objects more all : List Object) → first ≡ records_of objects ++ left → length left ≡ 0 → second ≡ records_of more ++ rest → all ≡ objects ++ more → first ++ second ≡ records_of all ++ rest
 spelled_join first second [] rest objects more all is none later grown =
     ap₂ (λ (xs ys : List ℕ). xs ++ ys) (is ∙ append-nil (records_of objects)) later
@@ -103,7 +103,7 @@ spelled_join first second [] rest objects more all is none later grown =
     ∙ ap (λ (os : List Object). records_of os ++ rest) (sym grown)
 spelled_join first second (b ∷ bs) rest objects more all is none later grown = absurd (omega arith)
 
--- records alone, behind the empty line
+-- records alone, after the empty line
 pub records_added : (headed : Bool) (had : ℕ) (text left : List ℕ) (added : Added) → headed ≡ true → had ≤ MAX_COMMANDS → added.header.items ≡ [] → added.commands.items ≡ [] → added.headed ≡ true → added.rest.items ≡ left
     → records_in (length text) text ≡ Flows [] added.objects.items true left → text ≡ records_of added.objects.items ++ left → length left ≤ MAX_REST → Awaits left added.wanted → IsAdded headed had text added
 records_added false had text left added met fits no_header no_commands later copied found spelled short waits = (let differs : ⊥ = cc in absurd differs)

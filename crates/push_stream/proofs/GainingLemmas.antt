@@ -21,7 +21,7 @@ use Rattle.push_stream.specs.Stream.{Stream, Flows, Breaks, behind, after_record
 use Rattle.push_stream.proofs.HeaderLemmas.{others_in, step_end, header_step}
 use Rattle.push_stream.proofs.StreamLemmas.{behind-nil, behind-behind}
 
--- what holds of both branches holds of the test
+-- what holds of both branches holds of the choice
 either : {X : Type 0} (P : X → Type 0) (b : Bool) (x y : X) → P x → P y → P (cond b x y)
 either P true x y left right = left
 either P false x y left right = right
@@ -74,7 +74,7 @@ open_by (Wrong why) Memory apart told cut = (let differs : ⊥ = cc in absurd di
 pub cut_open : (text : List ℕ) (error : BodyError) → TellsRecord (record_at text) error → is_cut error ≡ true → record_at text ≡ Open
 cut_open text error told cut = open_by (record_at text) error (record_apart text) told cut
 
--- any other that is told is wrong
+-- any other record that is reported is wrong
 pub not_cut : (at : RecordAt) (error : BodyError) → TellsRecord at error → is_cut error ≡ false → TellsWrong at error
 not_cut (Taken object behind) (Fault fault) told whole = absurd (cc)
 not_cut Open (Fault fault) told whole = (let differs : ⊥ = cc in absurd differs)
@@ -83,7 +83,7 @@ not_cut (Taken object behind) Memory told whole = tt
 not_cut Open Memory told whole = tt
 not_cut (Wrong why) Memory told whole = tt
 
--- no record stands at the front of no bytes
+-- an empty text is an open record
 pub nothing_open : (text : List ℕ) → length text ≡ 0 → record_at text ≡ Open
 unfolding record_at parts_at line_at
 nothing_open [] none = refl
@@ -98,7 +98,7 @@ pub taken_open : (whole : Stream) (most : ℕ) (sent : List Object) (rest : List
 taken_open whole most sent rest so_far is =
     so_far ∙ ap (behind [] sent) (open_in most rest is) ∙ ap (λ objects. Flows [] objects true rest) (append-nil sent)
 
--- a record that is wrong breaks the stream
+-- a wrong record breaks the stream
 breaks_at : (text : List ℕ) (others : List ℕ → Stream) (sent : List Object) (error : BodyError) (at : RecordAt) → TellsWrong at error → TellsBreak (behind [] sent (after_record text others at)) error
 breaks_at text others sent (Fault fault) at told = ap (λ found. behind [] sent (after_record text others found)) told
 breaks_at text others sent Memory at told = tt
@@ -112,12 +112,12 @@ breaks_record whole zero sent rest error some fits so_far told = absurd (omega a
 breaks_record whole (suc most) sent rest error some fits so_far told =
     same_break whole _ error so_far (breaks_at rest (records_in most) sent error (record_at rest) told)
 
--- no text is left behind the commands
+-- no text is left after the commands
 pub nothing_left : (whole : Stream) (room : ℕ) (commands : List Command) (rest : List ℕ) → whole ≡ behind commands [] (header_in room rest) → length rest ≡ 0 → whole ≡ behind commands [] (headed_by false rest)
 nothing_left whole room commands [] so_far none = so_far
 nothing_left whole room commands (b ∷ bs) so_far none = absurd (omega arith)
 
--- an empty line stands behind them
+-- an empty line follows them
 pub headed_left : (whole : Stream) (room : ℕ) (commands : List Command) (rest records : List ℕ) → whole ≡ behind commands [] (header_in room rest) → rest ≡ 10 ∷ records → whole ≡ behind commands [] (headed_by true records)
 headed_left whole room commands rest records so_far is =
     so_far ∙ ap (behind commands []) (ap (header_in room) is ∙ step_end room 10 records refl)
@@ -145,7 +145,7 @@ breaks_full whole zero commands rest found none some line so_far is =
     so_far ∙ ap (behind commands []) (header_step zero rest some line ∙ ap (after_command rest (others_in zero)) is)
 breaks_full whole (suc room) commands rest found none some line so_far is = absurd (omega arith)
 
--- a command more was read
+-- one more command was read
 pub command_more : (most : ℕ) (whole : Stream) (room : ℕ) (sent more : List Command) (rest others : List ℕ) (command : Command) → 0 < length rest → ((records : List ℕ) → rest ≢ 10 ∷ records) → length sent + room ≡ most → length sent < most
     → whole ≡ behind sent [] (header_in room rest) → command_at rest ≡ Ok (command, others) → more ≡ sent ++ command ∷ []
     → (left : ℕ) × (length more + left ≡ most) × (whole ≡ behind more [] (header_in left others))

@@ -15,7 +15,7 @@ pub header_none : (text : List ℕ) (none : List Command) → none ≡ [] → st
 unfolding stream_of
 header_none text none is = sym (behind-nil (header_in MAX_COMMANDS text)) ∙ ap (λ commands. behind commands [] (header_in MAX_COMMANDS text)) (sym is)
 
--- what comes behind a command, where so many have room
+-- what follows a command, with room for this many
 abbrev pub others_in : ℕ → List ℕ → Stream
 others_in zero rest = Breaks TooMany
 others_in (suc room) rest = header_in room rest
@@ -24,22 +24,22 @@ others_in (suc room) rest = header_in room rest
 not_ten : (b : ℕ) → b ≢ 10 → eqb b 10 ≡ false
 not_ten b apart = grind (arith, nat_tests)
 
--- what stands behind an empty line
+-- what follows an empty line
 pub step_end : (room b : ℕ) (bs : List ℕ) → eqb b 10 ≡ true → header_in room (b ∷ bs) ≡ records_in (length bs) bs
 step_end zero b bs is = ap (λ (t : Bool). cond t (records_in (length bs) bs) (after_command (b ∷ bs) (others_in zero) (command_at (b ∷ bs)))) is
 step_end (suc room) b bs is = ap (λ (t : Bool). cond t (records_in (length bs) bs) (after_command (b ∷ bs) (header_in room) (command_at (b ∷ bs)))) is
 
--- what stands behind a line that isn't empty
+-- what follows a line that is not empty
 pub step_line : (room b : ℕ) (bs : List ℕ) → eqb b 10 ≡ false → header_in room (b ∷ bs) ≡ after_command (b ∷ bs) (others_in room) (command_at (b ∷ bs))
 step_line zero b bs is = ap (λ (t : Bool). cond t (records_in (length bs) bs) (after_command (b ∷ bs) (others_in zero) (command_at (b ∷ bs)))) is
 step_line (suc room) b bs is = ap (λ (t : Bool). cond t (records_in (length bs) bs) (after_command (b ∷ bs) (header_in room) (command_at (b ∷ bs)))) is
 
--- the same, where the text is no empty line and what stands behind it
+-- a text that does not begin with an empty line
 pub header_step : (room : ℕ) (rest : List ℕ) → 0 < length rest → ((records : List ℕ) → rest ≢ 10 ∷ records) → header_in room rest ≡ after_command rest (others_in room) (command_at rest)
 header_step room [] some line = absurd (omega arith)
 header_step room (b ∷ bs) some line = step_line room b bs (not_ten b (λ is. line bs (ap (λ x. x ∷ bs) is)))
 
--- a command more was read
+-- one more command was read
 pub header_more : (whole : Stream) (room : ℕ) (sent more : List Command) (rest others : List ℕ) (command : Command) → 0 < length rest → ((records : List ℕ) → rest ≢ 10 ∷ records) → length sent + room ≡ MAX_COMMANDS → length sent < MAX_COMMANDS
     → whole ≡ behind sent [] (header_in room rest) → command_at rest ≡ Ok (command, others) → more ≡ sent ++ command ∷ []
     → (left : ℕ) × (length more + left ≡ MAX_COMMANDS) × (whole ≡ behind more [] (header_in left others))

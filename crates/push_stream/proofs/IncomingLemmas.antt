@@ -30,7 +30,7 @@ unfolding read_on
 broken_read count commands sent headed rest piece None is = (let differs : ⊥ = cc in absurd differs)
 broken_read count commands sent headed rest piece (Some fault) is = refl
 
--- what a stream that goes on adds
+-- what a stream that is not broken gains
 pub added_read : (count : ℕ) (commands : List Command) (sent : List Sent) (headed : Bool) (bytes piece new : List ℕ) (own : Option (List ℕ)) (fault : Option StreamFault) (more : Stream)
     → own ≡ None → is_some fault ≡ false → new ≡ bytes ++ piece → added_in headed (length commands) new ≡ more
     → ◌≡◌ {A = Reading} (record { count = count + length piece; flow = noted commands sent (flow_of more) }) (read_on (record { count = count; flow = flow_from commands sent headed (rest_of bytes own) fault }) piece)
@@ -44,7 +44,7 @@ added_read count commands sent headed bytes piece new None None more whole right
 open_flow : (commands : List Command) (sent : List Sent) (text : List ℕ) → ◌≡◌ {A = Flow} (Going commands sent true text) (noted commands sent (flow_of (Flows [] [] true text)))
 open_flow commands sent text = sym (ap₂ (λ (c : List Command) (s : List Sent). Going c s true text) (append-nil commands) (append-nil sent))
 
--- a record goes on to be unfinished
+-- a record stays unfinished
 pub waits_on : (bytes piece new : List ℕ) (wanted : ℕ) → new ≡ bytes ++ piece → Awaits bytes wanted → length new < wanted → record_at new ≡ Open
 waits_on bytes piece new wanted is waits few = ap record_at is ∙ waits piece (subst (λ (l : List ℕ). length l < wanted) is few)
 
@@ -132,13 +132,13 @@ opening_same kept old mid new has back more =
     let reading = kept_same kept old mid new has back more in
     λ i. record { header = header i; tail = bytes i; reading = reading i }
 
--- what is left as a draft is rolled back is what is kept of it
+-- a draft that is rolled back has the reading of what is kept of it
 pub rolled_reading : (kept : Kept) (old mid : Draft) → RollsBack kept old mid → reading_at mid ≡ reading_kept kept old
 rolled_reading kept old mid back =
     let rest = ap (λ o. rest_of mid.bytes.items (option_map (λ rest. rest.items) o)) back.rest ∙ back.bytes in
     λ i. reading_from (back.mark i) (back.commands i) (back.sent i) (rest i)
 
--- and can be had again
+-- and can be opened again
 pub rolled_opens : (kept : Kept) (old mid : Draft) → RollsBack kept old mid → Opens (opening_kept kept old) → Opens (opening_at mid)
 rolled_opens kept old mid back opens =
     let rest = ap (λ o. rest_of mid.bytes.items (option_map (λ rest. rest.items) o)) back.rest ∙ back.bytes in

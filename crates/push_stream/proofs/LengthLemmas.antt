@@ -31,7 +31,7 @@ line_long text (Whole line rest) found is told = by (command_of (words_of line))
 line_long text Unfinished found is told = (let differs : ⊥ = cc in absurd differs)
 line_long text TooLong found is told = (let differs : ⊥ = cc in absurd differs)
 
--- the same by the command
+-- so a command takes few bytes
 command_long : (text : List ℕ) (found : Command × List ℕ) → command_at text ≡ Ok found → length text ≤ length found.1 + 513
 unfolding command_at
 command_long text found is = line_long text (line_at text) found (line_is text) is
@@ -55,7 +55,7 @@ more_within m n k l (Flows commands [] headed (b ∷ rest)) within more = tt
 more_within m n k l (Flows commands (object ∷ objects) headed rest) within more = tt
 more_within m n k l (Breaks fault) within more = tt
 
--- a command before it
+-- one more command before it
 command_within : (m n : ℕ) (command : Command) (s : Stream) → IsHeaderWithin m n s → IsHeaderWithin m n (behind (command ∷ []) [] s)
 command_within m n command (Flows commands [] headed []) within = within
 command_within m n command (Flows commands [] headed (b ∷ rest)) within = tt
@@ -77,16 +77,16 @@ records_within (suc most) text = by (record_at text)
     by Open = left_within 0 text [] true
     by (Wrong fault) = tt
 
--- what holds of both branches holds of the test
+-- what holds of both branches holds of the choice
 either : {X : Type 0} (P : X → Type 0) (b : Bool) (x y : X) → P x → P y → P (cond b x y)
 either P true x y left right = left
 either P false x y left right = right
 
--- behind an empty line stands nothing
+-- nothing follows an empty line
 empty_line : (room : ℕ) (bs : List ℕ) → IsHeaderWithin (513 * room + 1) (suc (length bs)) (records_in (length bs) bs)
 empty_line room bs = more_within 0 (length bs) (513 * room + 1) (suc (length bs)) (records_in (length bs) bs) (records_within (length bs) bs) (λ none. omega arith)
 
--- or a line more
+-- or one more line
 line_within : (room : ℕ) (text : List ℕ) (others : List ℕ → Stream) (at : Result (Command × List ℕ) CommandFault) → command_at text ≡ at → ((rest : List ℕ) → IsHeaderWithin (513 * room + 1) (length rest) (others rest))
     → IsHeaderWithin (513 * suc room + 1) (length text) (after_command text others at)
 line_within room text others (Ok found) is within =
@@ -97,14 +97,14 @@ line_within room text others (Err command.Syntax) is within = tt
 line_within room text others (Err command.TooMany) is within = tt
 line_within room text others (Err command.Truncated) is within = left_within (513 * suc room + 1) text [] false
 
--- where no command has room
+-- without room for a command
 full_within : (text : List ℕ) (at : Result (Command × List ℕ) CommandFault) → IsHeaderWithin (513 * 0 + 1) (length text) (after_command text (λ rest. Breaks TooMany) at)
 full_within text (Ok found) = tt
 full_within text (Err command.Syntax) = tt
 full_within text (Err command.TooMany) = tt
 full_within text (Err command.Truncated) = left_within (513 * 0 + 1) text [] false
 
--- a header where so many commands have room
+-- a header with room for this many commands
 header_within : (room : ℕ) (text : List ℕ) → IsHeaderWithin (513 * room + 1) (length text) (header_in room text)
 header_within room [] = omega arith
 header_within zero (b ∷ bs) = either (IsHeaderWithin (513 * 0 + 1) (suc (length bs))) (eqb b 10) _ _ (empty_line 0 bs) (full_within (b ∷ bs) (command_at (b ∷ bs)))

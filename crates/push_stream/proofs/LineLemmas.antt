@@ -21,7 +21,7 @@ unfolding line_at
 line_again line rest plain short =
     ap (line_of_parts (line ++ 10 ∷ rest)) (split_once-append 10 line rest plain) ∙ ap (λ (t : Bool). cond t (Whole line rest) TooLong) (not_long (length line) short)
 
--- a line that was read stands there
+-- a line that was read is at the start of the text
 abbrev pub IsLineOf : List ℕ → LineAt → Type 0
 IsLineOf text (Whole line rest) = (text ≡ line ++ 10 ∷ rest) × All (λ b. b ≢ 10) line × (length line ≤ 512)
 IsLineOf text Unfinished = ⊤
@@ -43,7 +43,7 @@ pub line_is : (text : List ℕ) → IsLineOf text (line_at text)
 unfolding line_at
 line_is text = parts_are text (split_once 10 text) refl
 
--- the same answer with more behind the line
+-- the same answer with more after the line
 abbrev moved : List ℕ → Result (Command × List ℕ) CommandFault → Result (Command × List ℕ) CommandFault
 moved more (Ok found) = Ok (found.0, found.1 ++ more)
 moved more (Err fault) = Err fault
@@ -57,7 +57,7 @@ longer_by more (Whole line rest) later found is = moved_by rest more (command_of
 longer_by more Unfinished later found is = absurd (cc)
 longer_by more TooLong later found is = absurd (cc)
 
--- a command that is read is read whatever stands behind
+-- a command that is read is read whatever follows
 pub command_longer : (text more : List ℕ) (found : Command × List ℕ) → command_at text ≡ Ok found → command_at (text ++ more) ≡ Ok (found.0, found.1 ++ more)
 unfolding command_at
 command_longer text more found is =
@@ -77,7 +77,7 @@ no_line_end b bs found is = by_byte (eqb b 10) refl
     by_byte true same = let none = empty_line b bs same in absurd (cc)
     by_byte false same = refl
 
--- a command that was read is a line, which is read so whatever stands behind
+-- a command that was read is a line, which is read so whatever follows
 pub command_is : (text : List ℕ) (found : Command × List ℕ) → command_at text ≡ Ok found
     → (line : List ℕ) × (text ≡ line ++ 10 ∷ found.1) × ((more : List ℕ) → command_at (line ++ 10 ∷ more) ≡ Ok (found.0, more))
 unfolding command_at

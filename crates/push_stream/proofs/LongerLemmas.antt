@@ -12,7 +12,7 @@ use Rattle.push_stream.specs.declared.record.Head.{Head}
 use Rattle.push_stream.specs.declared.record.TheConstants.{MAX_CONTENT}
 use Rattle.push_stream.specs.Record.{PartsAt, Parts, Short, Faulty, RecordAt, Taken, Open, Wrong, parts_at, parts_of_line, parts_of_head, content_at, parts_of_content, head_of_words, record_at, record_of_parts}
 
--- a longer text is parted where its front is, or else behind it
+-- a longer text is split where its front is, or else after it
 abbrev split_longer : ℕ → List ℕ → List ℕ → Option (List ℕ × List ℕ) → Option (List ℕ × List ℕ)
 split_longer byte xs ys (Some p) = Some (p.0, p.1 ++ ys)
 split_longer byte xs ys None = option_map (λ p. (xs ++ p.0, p.1)) (split_once byte ys)
@@ -22,7 +22,7 @@ same_parts : (o : Option (List ℕ × List ℕ)) → o ≡ option_map (λ p. (p.
 same_parts None = refl
 same_parts (Some p) = refl
 
--- a byte more put before the first part
+-- one more byte put before the first part
 longer_parts : (b : ℕ) (xs : List ℕ) (o : Option (List ℕ × List ℕ)) → option_map {U = List ℕ × List ℕ} (λ p. (b ∷ p.0, p.1)) (option_map {U = List ℕ × List ℕ} (λ p. (xs ++ p.0, p.1)) o) ≡ option_map (λ p. (b ∷ (xs ++ p.0), p.1)) o
 longer_parts b xs None = refl
 longer_parts b xs (Some p) = refl
@@ -34,7 +34,7 @@ split_step byte b xs ys true o later is = refl
 split_step byte b xs ys false (Some p) later is = ap (option_map {U = List ℕ × List ℕ} (λ q. (b ∷ q.0, q.1))) is
 split_step byte b xs ys false None later is = ap (option_map {U = List ℕ × List ℕ} (λ q. (b ∷ q.0, q.1))) is ∙ longer_parts b xs (split_once byte ys)
 
--- the longer text is parted so
+-- the longer text is split so
 split_grows : (byte : ℕ) (xs ys : List ℕ) → split_once byte (xs ++ ys) ≡ split_longer byte xs ys (split_once byte xs)
 split_grows byte [] ys = same_parts (split_once byte ys)
 split_grows byte (b ∷ xs) ys = split_step byte b xs ys (eqb b byte) (split_once byte xs) (split_once byte (xs ++ ys)) (split_grows byte xs ys)
@@ -45,7 +45,7 @@ line_longer ys (Whole line behind) later = Whole line (behind ++ ys)
 line_longer ys Unfinished later = later
 line_longer ys TooLong later = TooLong
 
--- a line that is parted keeps its length
+-- a line that is split off keeps its length
 whole_grows : (ys line behind : List ℕ) (t : Bool) (later : LineAt) → cond t (Whole line (behind ++ ys)) TooLong ≡ line_longer ys (cond t (Whole line behind) TooLong) later
 whole_grows ys line behind true later = refl
 whole_grows ys line behind false later = refl
@@ -65,13 +65,13 @@ long_grows : (xs ys : List ℕ) (o : Option (List ℕ × List ℕ)) → nat_le (
 long_grows xs ys None is = too_long (xs ++ ys) Unfinished (still_long xs ys is)
 long_grows xs ys (Some p) is = too_long (xs ++ p.0) (Whole (xs ++ p.0) p.1) (still_long xs p.0 is)
 
--- a line that is not parted yet
+-- a line that is not split off yet
 open_grows : (xs ys : List ℕ) (o : Option (List ℕ × List ℕ)) (t : Bool) → nat_le (length xs) 512 ≡ t
     → line_of_parts (xs ++ ys) (option_map (λ p. (xs ++ p.0, p.1)) o) ≡ line_longer ys (cond t Unfinished TooLong) (line_of_parts (xs ++ ys) (option_map (λ p. (xs ++ p.0, p.1)) o))
 open_grows xs ys o true is = refl
 open_grows xs ys o false is = long_grows xs ys o is
 
--- by how the front is parted
+-- by how the front is split
 line_by : (xs ys : List ℕ) (o : Option (List ℕ × List ℕ)) → line_of_parts (xs ++ ys) (split_longer 10 xs ys o) ≡ line_longer ys (line_of_parts xs o) (line_of_parts (xs ++ ys) (split_longer 10 xs ys o))
 line_by xs ys None = open_grows xs ys (split_once 10 ys) (nat_le (length xs) 512) refl
 line_by xs ys (Some (line, behind)) = whole_grows ys line behind (nat_le (length line) 512) _
@@ -89,12 +89,12 @@ parts_longer ys (Parts head content behind) later = Parts head content (behind +
 parts_longer ys Short later = later
 parts_longer ys (Faulty fault) later = Faulty fault
 
--- the byte behind the content decides alone
+-- the byte after the content decides alone
 ended_by : (ys : List ℕ) (head : Head) (content behind : List ℕ) (t : Bool) (later : PartsAt) → cond t (Parts head content (behind ++ ys)) (Faulty Syntax) ≡ parts_longer ys (cond t (Parts head content behind) (Faulty Syntax)) later
 ended_by ys head content behind true later = refl
 ended_by ys head content behind false later = refl
 
--- a text that is parted at a place within it
+-- a text that is split at a place within it
 drop_longer : (n : ℕ) (t ys : List ℕ) (b : ℕ) (behind : List ℕ) → drop n t ≡ b ∷ behind → drop n (t ++ ys) ≡ b ∷ (behind ++ ys)
 drop_longer zero t ys b behind is = ap (λ (l : List ℕ). l ++ ys) is
 drop_longer (suc n) [] ys b behind is = absurd (cc)

@@ -21,7 +21,7 @@ IsRight (Taken object rest) = object_in object.kind object.bytes ≢ None
 IsRight Open = ⊤
 IsRight (Wrong fault) = ⊤
 
--- what holds of both branches holds of the test
+-- what holds of both branches holds of the choice
 either : {X : Type 0} (P : X → Type 0) (b : Bool) (x y : X) → P x → P y → P (cond b x y)
 either P true x y left right = left
 either P false x y left right = right
@@ -39,7 +39,7 @@ parts_right (Parts head content rest) =
 parts_right Short = tt
 parts_right (Faulty fault) = tt
 
--- a record that is taken is right
+-- a record that is taken is valid
 record_right : (text : List ℕ) → IsRight (record_at text)
 unfolding record_at
 record_right text = parts_right (parts_at text)
@@ -78,12 +78,12 @@ header_right room [] = tt
 header_right zero (b ∷ bs) = either (λ s. AreObjects (sent_in s)) (eqb b 10) _ _ (records_right (length bs) bs) (after_command_right (b ∷ bs) (λ rest. Breaks TooMany) (command_at (b ∷ bs)) (λ rest. tt))
 header_right (suc room) (b ∷ bs) = either (λ s. AreObjects (sent_in s)) (eqb b 10) _ _ (records_right (length bs) bs) (after_command_right (b ∷ bs) (header_in room) (command_at (b ∷ bs)) (λ rest. header_right room rest))
 
--- what a stream holds are objects
+-- what a stream holds is objects
 pub stream_right : (bytes : List ℕ) → AreObjects (sent_in (stream_of bytes))
 unfolding stream_of
 stream_right bytes = header_right MAX_COMMANDS bytes
 
--- a piece adds objects alone
+-- a piece adds only objects
 with_right : (s : Stream) (piece : List ℕ) → AreObjects (sent_in s) → AreObjects (sent_in (stream_with s piece))
 with_right (Flows commands objects true rest) piece are = behind_right commands objects (records_in (length (rest ++ piece)) (rest ++ piece)) are (records_right (length (rest ++ piece)) (rest ++ piece))
 with_right (Flows commands objects false rest) piece are = behind_right commands objects (header_in (MAX_COMMANDS - length commands) (rest ++ piece)) are (header_right (MAX_COMMANDS - length commands) (rest ++ piece))

@@ -22,7 +22,7 @@ use Rattle.push_stream.proofs.PieceLemmas.{stream_grows}
 use Rattle.push_stream.proofs.WrittenLemmas.{append-none, records_again}
 
 -- ---- lengths
--- a record has as many bytes as what is told of its object says
+-- a record has as many bytes as what is known of its object says
 size_of_record : (object : Object) → length (record_of object) ≡ record_size (sent_of object)
 unfolding record_of
 size_of_record object =
@@ -44,17 +44,17 @@ size_of_records (object ∷ objects) =
 sizes_join : (sent more : List Sent) → records_size (sent ++ more) ≡ records_size sent + records_size more
 sizes_join sent more = sum_by-append record_size sent more
 
--- ---- a header, and what stands behind it
--- what a text adds behind a header
+-- ---- a header, and what follows it
+-- what a text adds after a header
 pub header_before : (header text : List ℕ) (commands : List Command) (headed : Bool) → stream_of header ≡ Flows commands [] headed [] → stream_of (header ++ text) ≡ behind commands [] (added_in headed (length commands) text)
 header_before header text commands true asks = sym (stream_grows header text) ∙ ap (λ (s : Stream). stream_with s text) asks
 header_before header text commands false asks = sym (stream_grows header text) ∙ ap (λ (s : Stream). stream_with s text) asks
 
--- what adds nothing to what stands before is nothing but a rest
+-- a list that adds nothing to another is empty
 no_more : {A : Type 0} (xs ys : List A) → xs ++ ys ≡ xs → ys ≡ []
 no_more xs ys is = append_cancel_left xs ys [] (is ∙ sym (append-nil xs))
 
--- the same of a stream
+-- a stream that adds nothing to another is nothing but a rest
 nothing_more : (commands : List Command) (objects : List Object) (headed : Bool) (rest : List ℕ) (s : Stream) → behind commands objects s ≡ Flows commands objects headed rest → s ≡ Flows [] [] headed rest
 nothing_more commands objects headed rest (Flows others more later left) is =
     let asked : commands ++ others ≡ commands = cc in
@@ -66,7 +66,7 @@ nothing_more commands objects headed rest (Flows others more later left) is =
     λ i. Flows (no_others i) (none_sent i) (same i) (ends i)
 nothing_more commands objects headed rest (Breaks fault) is = (let differs : ⊥ = cc in absurd differs)
 
--- so nothing is whole in the rest of a stream
+-- so nothing in the rest of a stream is complete
 pub rest_waits : (bytes : List ℕ) (commands : List Command) (objects : List Object) (headed : Bool) (rest : List ℕ) → stream_of bytes ≡ Flows commands objects headed rest → added_in headed (length commands) rest ≡ Flows [] [] headed rest
 rest_waits bytes commands objects true rest is =
     let again = ap (λ (s : Stream). stream_with s []) (sym is) ∙ stream_grows bytes [] ∙ ap stream_of (append-nil bytes) ∙ is in
@@ -144,12 +144,12 @@ pub opens_short : (header tail : List ℕ) (count : ℕ) (flow : Flow) → Opens
 opens_short header tail count (Going commands sent headed rest) opens = header_short header commands headed opens.asks
 opens_short header tail count (Broken fault) opens = opens.short
 
--- no objects are told of by nothing
+-- if nothing was sent, there are no objects
 none_told : (objects : List Object) (sent : List Sent) → map sent_of objects ≡ sent → sent ≡ [] → objects ≡ []
 none_told [] sent told none = refl
 none_told (object ∷ objects) sent told none = (let differs : ⊥ = cc in absurd differs)
 
--- records behind a header
+-- records after a header
 records_behind : (header rest : List ℕ) (commands : List Command) (objects : List Object) → AreObjects objects → AreWithin objects → stream_of header ≡ Flows commands [] true [] → records_in (length rest) rest ≡ Flows [] [] true rest
     → stream_of (header ++ (records_of objects ++ rest)) ≡ Flows commands objects true rest
 records_behind header rest commands objects are within asks waits =
@@ -172,7 +172,7 @@ going_again header rest commands sent false objects are within told bare asks wa
     ∙ ap flow_of (header_before header rest commands false asks ∙ ap (behind commands []) waits)
     ∙ ap₂ (λ (cs : List Command) (s : List Sent). Going cs s false rest) (append-nil commands) (sym (bare refl))
 
--- so many bytes, with which the stream stands so
+-- bytes of this number that lead the stream to this state
 same_reading : (bytes : List ℕ) (reading : Reading) → length bytes ≡ reading.count → flow_of (stream_of bytes) ≡ reading.flow → reading_of bytes ≡ reading
 same_reading bytes reading count flow = ap₂ (λ (n : ℕ) (f : Flow). record { count = n; flow = f }) count flow
 

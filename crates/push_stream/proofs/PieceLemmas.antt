@@ -16,13 +16,13 @@ use Rattle.push_stream.proofs.LongerLemmas.{line_longer, line_grows, record_long
 use Rattle.push_stream.proofs.RecordLemmas.{record_shorter}
 use Rattle.push_stream.proofs.StreamLemmas.{behind-nil, behind-behind, records_in-nil}
 
--- a stream after one more piece, where so many commands had room
+-- a stream after one more piece, with room for this many commands
 abbrev pub continued_in : ℕ → Stream → List ℕ → Stream
 continued_in room (Flows commands objects true rest) piece = behind commands objects (records_in (length (rest ++ piece)) (rest ++ piece))
 continued_in room (Flows commands objects false rest) piece = behind commands objects (header_in (room - length commands) (rest ++ piece))
 continued_in room (Breaks fault) piece = Breaks fault
 
--- what stands before makes no difference to what a piece adds
+-- an object that precedes makes no difference to what a piece adds
 object_before : (room : ℕ) (object : Object) (s : Stream) (piece : List ℕ) → continued_in room (behind [] (object ∷ []) s) piece ≡ behind [] (object ∷ []) (continued_in room s piece)
 object_before room object (Flows commands objects true rest) piece = sym (behind-behind [] commands (object ∷ []) objects (records_in (length (rest ++ piece)) (rest ++ piece)))
 object_before room object (Flows commands objects false rest) piece = sym (behind-behind [] commands (object ∷ []) objects (header_in (room - length commands) (rest ++ piece)))
@@ -32,13 +32,13 @@ object_before room object (Breaks fault) piece = refl
 less_room : (room n : ℕ) → suc room - suc n ≡ room - n
 less_room room n = omega arith
 
--- nothing stands before
+-- nothing precedes
 nothing_before : (room : ℕ) (text : List ℕ) → behind [] [] (header_in (room - 0) text) ≡ header_in room text
 nothing_before room text =
     let full : room - 0 ≡ room = omega arith in
     behind-nil (header_in (room - 0) text) ∙ ap (λ left. header_in left text) full
 
--- and no command that stands before
+-- nor does a command that precedes
 command_before : (room : ℕ) (command : Command) (s : Stream) (piece : List ℕ) → continued_in (suc room) (behind (command ∷ []) [] s) piece ≡ behind (command ∷ []) [] (continued_in room s piece)
 command_before room command (Flows commands objects true rest) piece = sym (behind-behind (command ∷ []) commands [] objects (records_in (length (rest ++ piece)) (rest ++ piece)))
 command_before room command (Flows commands objects false rest) piece =
@@ -46,12 +46,12 @@ command_before room command (Flows commands objects false rest) piece =
     ∙ sym (behind-behind (command ∷ []) commands [] objects (header_in (room - length commands) (rest ++ piece)))
 command_before room command (Breaks fault) piece = refl
 
--- no bytes are the empty text
+-- a text of no bytes is empty
 no_bytes : (rest : List ℕ) → length rest ≤ 0 → rest ≡ []
 no_bytes [] none = refl
 no_bytes (b ∷ rest) none = absurd (omega arith)
 
--- no bound that is as long as the text cuts anything off
+-- a bound at least as long as the text cuts nothing off
 records_bound : (m n : ℕ) (text : List ℕ) → length text ≤ m → length text ≤ n → records_in m text ≡ records_in n text
 records_bound zero n text fits fits_too = ap (records_in zero) (no_bytes text fits) ∙ sym (ap (records_in n) (no_bytes text fits) ∙ records_in-nil n)
 records_bound (suc m) zero text fits fits_too = ap (records_in (suc m)) (no_bytes text fits_too) ∙ records_in-nil (suc m) ∙ sym (ap (records_in zero) (no_bytes text fits_too))
@@ -68,7 +68,7 @@ records_bound (suc m) (suc n) text fits fits_too = by_record (record_at text) re
 records_step : (text : List ℕ) (at : RecordAt) → record_at text ≡ at → records_in (length text) text ≡ after_record text (records_in (length text)) at
 records_step text at is = records_bound (length text) (suc (length text)) text (omega arith) (omega arith) ∙ ap (after_record text (records_in (length text))) is
 
--- records, and a piece behind them
+-- records, and a piece after them
 records_grow : (room most : ℕ) (text piece : List ℕ) → continued_in room (records_in most text) piece ≡ records_in (length (text ++ piece)) (text ++ piece)
 records_grow room zero text piece = behind-nil (records_in (length (text ++ piece)) (text ++ piece))
 records_grow room (suc most) text piece = by_record (record_at text) refl (λ rest. records_grow room most rest piece)
@@ -88,7 +88,7 @@ records_grow room (suc most) text piece = by_record (record_at text) refl (λ re
         let later : record_at (text ++ piece) ≡ Wrong fault = record_grows text piece ∙ ap (λ at. record_longer piece at (record_at (text ++ piece))) is in
         sym (records_step (text ++ piece) (Wrong fault) later)
 
--- two texts of records, of which the first ends where a record ends
+-- two texts of records, if the first ends where a record ends
 pub records_join : (first second left rest : List ℕ) (objects more all : List Object) → records_in (length first) first ≡ Flows [] objects true left → length left ≡ 0 → records_in (length second) second ≡ Flows [] more true rest → all ≡ objects ++ more
     → records_in (length (first ++ second)) (first ++ second) ≡ Flows [] all true rest
 records_join first second [] rest objects more all is none later grown =
@@ -98,7 +98,7 @@ records_join first second [] rest objects more all is none later grown =
     ∙ ap (λ (os : List Object). Flows [] os true rest) (sym grown)
 records_join first second (b ∷ bs) rest objects more all is none later grown = absurd (omega arith)
 
--- a command at the front, where it is decided, and the whole where it isn't
+-- the command at the front if it is decided, or else the whole
 line_by : (room : ℕ) (text piece : List ℕ) (at later : LineAt) → ((command : Command) (rest : List ℕ) → continued_in room (behind (command ∷ []) [] (others_in room rest)) piece ≡ behind (command ∷ []) [] (others_in room (rest ++ piece)))
     → header_in room (text ++ piece) ≡ after_command (text ++ piece) (others_in room) (command_of_line (line_longer piece at later))
     → continued_in room (after_command text (others_in room) (command_of_line at)) piece ≡ after_command (text ++ piece) (others_in room) (command_of_line (line_longer piece at later))
@@ -110,7 +110,7 @@ line_by room text piece (Whole line rest) later grow whole = by_command (command
 line_by room text piece Unfinished later grow whole = nothing_before room (text ++ piece) ∙ whole
 line_by room text piece TooLong later grow whole = refl
 
--- commands, and a piece behind the line that comes next
+-- commands, and a piece after the line that comes next
 command_grows : (room : ℕ) (text piece : List ℕ) → ((command : Command) (rest : List ℕ) → continued_in room (behind (command ∷ []) [] (others_in room rest)) piece ≡ behind (command ∷ []) [] (others_in room (rest ++ piece)))
     → header_in room (text ++ piece) ≡ after_command (text ++ piece) (others_in room) (command_at (text ++ piece))
     → continued_in room (after_command text (others_in room) (command_at text)) piece ≡ header_in room (text ++ piece)
@@ -125,19 +125,19 @@ header_by : (room b : ℕ) (bs piece : List ℕ) (t : Bool) → eqb b 10 ≡ t �
 header_by room b bs piece true is grow = ap (λ s. continued_in room s piece) (step_end room b bs is) ∙ records_grow room (length bs) bs piece ∙ sym (step_end room b (bs ++ piece) is)
 header_by room b bs piece false is grow = ap (λ s. continued_in room s piece) (step_line room b bs is) ∙ command_grows room (b ∷ bs) piece grow (step_line room b (bs ++ piece) is)
 
--- a stream, and a piece behind it, whatever room there is
+-- a stream, and a piece after it, whatever room there is
 pub header_grows : (room : ℕ) (text piece : List ℕ) → continued_in room (header_in room text) piece ≡ header_in room (text ++ piece)
 header_grows room [] piece = nothing_before room piece
 header_grows zero (b ∷ bs) piece = header_by zero b bs piece (eqb b 10) refl (λ command rest. refl)
 header_grows (suc room) (b ∷ bs) piece = header_by (suc room) b bs piece (eqb b 10) refl (λ command rest. command_before room command (header_in room rest) piece ∙ ap (behind (command ∷ []) []) (header_grows room rest piece))
 
--- a piece where 256 commands had room
+-- a piece, with room for 256 commands
 with_is : (s : Stream) (piece : List ℕ) → stream_with s piece ≡ continued_in MAX_COMMANDS s piece
 with_is (Flows commands objects true rest) piece = refl
 with_is (Flows commands objects false rest) piece = refl
 with_is (Breaks fault) piece = refl
 
--- a whole stream, and a piece behind it
+-- a whole stream, and a piece after it
 pub stream_grows : (bytes piece : List ℕ) → stream_with (stream_of bytes) piece ≡ stream_of (bytes ++ piece)
 unfolding stream_of
 stream_grows bytes piece = with_is (header_in MAX_COMMANDS bytes) piece ∙ header_grows MAX_COMMANDS bytes piece

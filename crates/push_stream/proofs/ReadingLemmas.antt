@@ -12,12 +12,12 @@ use Rattle.push_stream.specs.Stream.{Stream, Flows, Breaks, behind, finished, he
 use Rattle.push_stream.specs.Upload.{UploadValue, continued, stream_with}
 use Rattle.push_stream.proofs.PieceLemmas.{piece_joins}
 
--- what stands before a stream is noted before it
+-- what precedes a stream is noted before it
 flow_behind : (commands : List Command) (objects : List Object) (s : Stream) → flow_of (behind commands objects s) ≡ noted commands (map sent_of objects) (flow_of s)
 flow_behind commands objects (Flows others more headed rest) = ap (λ (sent : List Sent). Going (commands ++ others) sent headed rest) (map-append sent_of objects more)
 flow_behind commands objects (Breaks fault) = refl
 
--- a stream after one more piece, as what is known of it tells
+-- a stream after one more piece, from what is known of it
 flow_joins : (s : Stream) (piece : List ℕ) → flow_of (stream_with s piece) ≡ flow_with (flow_of s) (added (flow_of s) piece)
 flow_joins (Flows commands objects true rest) piece = flow_behind commands objects (records_in (length (rest ++ piece)) (rest ++ piece))
 flow_joins (Flows commands objects false rest) piece = flow_behind commands objects (header_in (MAX_COMMANDS - length commands) (rest ++ piece))
@@ -39,7 +39,7 @@ drop_none : (n : ℕ) → ◌≡◌ {A = List Object} (drop n []) []
 drop_none zero = refl
 drop_none (suc n) = refl
 
--- what stands behind other objects
+-- what follows other objects
 gained_behind : (commands : List Command) (objects : List Object) (s : Stream) → drop (length objects) (sent_in (behind commands objects s)) ≡ sent_in s
 gained_behind commands objects (Flows others more headed rest) = drop-append_seam objects more
 gained_behind commands objects (Breaks fault) = drop_none (length objects)

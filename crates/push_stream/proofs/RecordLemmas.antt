@@ -12,7 +12,7 @@ use Rattle.push_stream.specs.declared.record.Head.{Head}
 use Rattle.push_stream.specs.declared.record.TheConstants.{MAX_CONTENT}
 use Rattle.push_stream.specs.Record.{PartsAt, Parts, Short, Faulty, RecordAt, Taken, Open, Wrong, parts_at, parts_of_line, parts_of_head, content_at, parts_of_content, head_of_words, record_at, record_of_parts}
 
--- what holds of both branches holds of the test
+-- what holds of both branches holds of the choice
 either : {X : Type 0} (f : X → ℕ) (n : ℕ) (b : Bool) (x y : X) → f x ≤ n → f y ≤ n → f (cond b x y) ≤ n
 either f n true x y left right = left
 either f n false x y left right = right
@@ -29,13 +29,13 @@ from_parts (Parts head content behind) = suc (length behind)
 from_parts Short = 0
 from_parts (Faulty fault) = 0
 
--- the same, of a record that was judged
+-- the bytes from the last LF of a judged record on
 abbrev from_record : RecordAt → ℕ
 from_record (Taken object behind) = suc (length behind)
 from_record Open = 0
 from_record (Wrong fault) = 0
 
--- what stands behind a line's LF is shorter
+-- what follows a line's LF is shorter
 behind_line : (text line behind : List ℕ) → text ≡ line ++ 10 ∷ behind → suc (length behind) ≤ length text
 behind_line text line behind is =
     let whole : length text ≡ length line + length (10 ∷ behind) = ap (λ (l : List ℕ). length l) is ∙ length-append line (10 ∷ behind) in
@@ -51,7 +51,7 @@ in_ended : (head : Head) (content text : List ℕ) → from_parts (parts_of_cont
 in_ended head content [] = omega arith
 in_ended head content (b ∷ behind) = either from_parts (length (b ∷ behind)) (eqb b 10) (Parts head content behind) _ (omega arith) (omega arith)
 
--- a content stands in the text
+-- a content is within the text
 in_content : (head : Head) (text : List ℕ) → from_parts (content_at head text) ≤ length text
 in_content head text =
     let shorter : length (drop head.size text) ≤ length text = (let is = length-drop head.size text in omega arith) in
@@ -77,12 +77,12 @@ in_record n (Parts head content behind) fits =
 in_record n Short fits = omega arith
 in_record n (Faulty fault) fits = omega arith
 
--- the record stands in the text
+-- the record is within the text
 within : (text : List ℕ) → from_record (record_at text) ≤ length text
 unfolding record_at parts_at line_at
 within text = in_record (length text) (parts_at text) (in_parts (length text) (line_at text) (in_line text (split_once 10 text) refl))
 
--- what stands behind a record is shorter
+-- what follows a record is shorter
 pub record_shorter : (text : List ℕ) (object : Object) (behind : List ℕ) → record_at text ≡ Taken object behind → length behind < length text
 record_shorter text object behind is =
     let fits : from_record (Taken object behind) ≤ length text = subst (λ at. from_record at ≤ length text) is (within text) in

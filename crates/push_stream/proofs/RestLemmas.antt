@@ -120,7 +120,7 @@ words_short head (digits ∷ word ∷ number ∷ fourth ∷ words) is fits = abs
 pub line_within : (head : Head) (line : List ℕ) → head_of_words (words_of line) ≡ Some head → head.size ≤ MAX_CONTENT → length line ≤ 79
 line_within head line is fits = subst (λ (l : List ℕ). length l ≤ 79) (spaced-words_of line) (words_short head (words_of line) is fits)
 
--- what holds of both branches holds of the test
+-- what holds of both branches holds of the choice
 either : {X : Type 0} (P : X → Type 0) (b : Bool) (x y : X) → (b ≡ true → P x) → (b ≡ false → P y) → P (cond b x y)
 either P true x y left right = left refl
 either P false x y left right = right refl
@@ -172,11 +172,11 @@ pub open_short : (text : List ℕ) → record_at text ≡ Open → length text �
 unfolding record_at parts_at
 open_short text is = record_short (length text) (parts_of_line (line_at text)) (parts_short text (line_at text) refl (line_is text)) is
 
--- no bytes are enough to finish a record whose line is not whole
+-- any text awaits 0 bytes
 pub awaits_none : (text : List ℕ) (n : ℕ) → n ≡ 0 → Awaits text n
 awaits_none text n none = λ more fits. absurd (omega arith)
 
--- no bytes are the empty text
+-- a text of no bytes is empty
 no_bytes : (rest : List ℕ) → length rest ≡ 0 → rest ≡ []
 no_bytes [] none = refl
 no_bytes (b ∷ rest) none = absurd (omega arith)
@@ -194,7 +194,7 @@ content_open head text fits short =
     ap (λ (t : Bool). cond t (Faulty (TooLarge head.name)) (parts_of_content head (take head.size text) (drop head.size text))) (fits_too MAX_CONTENT head.size fits)
     ∙ ap (parts_of_content head (take head.size text)) (drop_all head.size text short)
 
--- and where it is, the content and its LF are wanted
+-- if the line is whole, the content and its LF are wanted
 pub awaits_content : (text line rest : List ℕ) (head : Head) (n : ℕ) → line_at text ≡ Whole line rest → head_of_words (words_of line) ≡ Some head → head.size ≤ MAX_CONTENT → n ≡ length line + 2 + head.size → Awaits text n
 unfolding record_at parts_at
 awaits_content text line rest head n is said fits all = λ more few.

@@ -57,7 +57,7 @@ words_said head (digits ∷ word ∷ number ∷ fourth ∷ words) is = absurd (c
 line_said : (head : Head) (line : List ℕ) → head_of_words (words_of line) ≡ Some head → line ≡ line_of head
 line_said head line is = sym (spaced-words_of line) ∙ words_said head (words_of line) is
 
--- a content that was read stands there
+-- a content that was read is in the text
 abbrev IsContentOf : Head → List ℕ → PartsAt → Type 0
 IsContentOf head text (Parts said content rest) = (said ≡ head) × (text ≡ content ++ 10 ∷ rest) × (length content ≡ head.size) × (head.size ≤ MAX_CONTENT)
 IsContentOf head text Short = ⊤
@@ -108,7 +108,7 @@ parts_are : (text : List ℕ) → ArePartsOf text (parts_at text)
 unfolding parts_at
 parts_are text = parts_by text (line_at text) (line_is text)
 
--- a record that was read stands there
+-- a record that was read is at the start of the text
 abbrev pub IsRecordOf : List ℕ → RecordAt → Type 0
 IsRecordOf text (Taken object rest) = (text ≡ record_of object ++ rest) × (length object.bytes ≤ MAX_CONTENT)
 IsRecordOf text Open = ⊤
@@ -165,7 +165,7 @@ records_are (suc most) text = by_record (record_at text) (record_is text) (λ re
     by_record Open is are = no_records text
     by_record (Wrong fault) is are = tt
 
--- a whole stream where so many commands have room
+-- a whole stream with room for this many commands
 abbrev IsWhole : ℕ → List ℕ → Result (List Command × List Object) StreamFault → Type 0
 IsWhole room text (Ok held) = (lines : List ℕ) × (text ≡ lines ++ 10 ∷ records_of held.1) × (commands_in room lines ≡ Ok held.0) × AreWithin held.1
 IsWhole room text (Err fault) = ⊤
@@ -173,7 +173,7 @@ IsWhole room text (Err fault) = ⊤
 none_asked : (room : ℕ) (commands : List Command) → commands ≡ [] → commands_in room [] ≡ Ok commands
 none_asked room commands none = ap (λ (cs : List Command). Ok cs) (sym none)
 
--- records alone behind an empty line
+-- records alone after an empty line
 records_alone : (room b : ℕ) (bs : List ℕ) (r : Result (List Command × List Object) StreamFault) → eqb b 10 ≡ true → AreRecords bs r → IsWhole room (b ∷ bs) r
 records_alone room b bs (Ok held) same are =
     let line_end : b ≡ 10 = grind (arith, nat_tests) in
@@ -185,7 +185,7 @@ some_bytes line rest =
     let all : length (line ++ 10 ∷ rest) ≡ length line + suc (length rest) = length-append line (10 ∷ rest) in
     omega arith
 
--- a command line before
+-- one more command line before
 one_asked : (room : ℕ) (text : List ℕ) (found : Command × List ℕ) (r : Result (List Command × List Object) StreamFault) → command_at text ≡ Ok found → IsWhole room found.1 r → IsWhole (suc room) text (and_more (found.0 ∷ []) [] r)
 one_asked room text found (Ok held) front is =
     let one = command_is text found front in
@@ -197,7 +197,7 @@ one_asked room text found (Ok held) front is =
     )
 one_asked room text found (Err fault) front is = tt
 
--- what stands where no command has room
+-- a whole stream without room for a command
 none_more : (text : List ℕ) (at : Result (Command × List ℕ) CommandFault) → IsWhole zero text (finished (after_command text (λ rest. Breaks TooMany) at))
 none_more text (Ok found) = tt
 none_more text (Err command.Syntax) = tt
@@ -234,7 +234,7 @@ whole_sends (Flows others more true (b ∷ rest)) commands objects is = absurd (
 whole_sends (Flows others more false rest) commands objects is = absurd (cc)
 whole_sends (Breaks fault) commands objects is = absurd (cc)
 
--- so a whole stream is spelled as it should be
+-- so a whole stream is spelled as command lines and records
 pub whole_is_spelled : (bytes : List ℕ) (commands : List Command) (objects : List Object) → finished (stream_of bytes) ≡ Ok (commands, objects) → IsStream bytes commands objects
 unfolding stream_of commands_of
 whole_is_spelled bytes commands objects is =

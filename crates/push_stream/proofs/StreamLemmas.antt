@@ -11,12 +11,12 @@ use Rattle.push_stream.specs.declared.fault.BodyError.TheVariants.{Fault, Memory
 use Rattle.push_stream.specs.declared.fault.StreamFault.{StreamFault}
 use Rattle.push_stream.proofs.RecordLemmas.{record_shorter}
 
--- nothing stands before
+-- nothing precedes
 pub behind-nil : (s : Stream) → behind [] [] s ≡ s
 behind-nil (Flows commands objects headed rest) = refl
 behind-nil (Breaks fault) = refl
 
--- what stands before what stands before
+-- what precedes in two steps precedes in one
 pub behind-behind : (cs ds : List Command) (os ps : List Object) (s : Stream) → behind cs os (behind ds ps s) ≡ behind (cs ++ ds) (os ++ ps) s
 behind-behind cs ds os ps (Flows commands objects headed rest) = ap₂ (λ before more. Flows before more headed rest) (sym (append_assoc cs ds commands)) (sym (append_assoc os ps objects))
 behind-behind cs ds os ps (Breaks fault) = refl
@@ -27,7 +27,7 @@ unfolding record_at parts_at line_at
 records_in-nil zero = refl
 records_in-nil (suc most) = refl
 
--- a record more was taken
+-- one more record was taken
 pub taken_more : (whole : Stream) (most : ℕ) (sent more : List Object) (rest others : List ℕ) (object : Object) → length rest ≤ most → whole ≡ behind [] sent (records_in most rest) → record_at rest ≡ Taken object others → more ≡ sent ++ object ∷ []
     → (left : ℕ) × (length others ≤ left) × (whole ≡ behind [] more (records_in left others))
 taken_more whole zero sent more rest others object fits so_far taken grown =
@@ -37,12 +37,12 @@ taken_more whole (suc most) sent more rest others object fits so_far taken grown
     let shorter : length others < length rest = record_shorter rest object others taken in
     (most, omega arith, so_far ∙ ap (λ at. behind [] sent (after_record rest (records_in most) at)) taken ∙ behind-behind [] [] sent (object ∷ []) (records_in most others) ∙ ap (λ objects. behind [] objects (records_in most others)) (sym grown))
 
--- the empty rest holds no record
+-- an empty rest holds no record
 nothing_left : (whole : Stream) (most : ℕ) (sent : List Object) (rest : List ℕ) → whole ≡ behind [] sent (records_in most rest) → rest ≡ [] → finished whole ≡ Ok ([], sent)
 nothing_left whole most sent rest so_far none =
     ap finished (so_far ∙ ap (λ r. behind [] sent (records_in most r)) none ∙ ap (behind [] sent) (records_in-nil most)) ∙ ap (λ objects. Ok ([], objects)) (append-nil sent)
 
--- no bytes are the empty text
+-- a text of no bytes is empty
 no_bytes : (rest : List ℕ) → length rest ≡ 0 → rest ≡ []
 no_bytes [] none = refl
 no_bytes (b ∷ rest) none = absurd (omega arith)
@@ -51,12 +51,12 @@ no_bytes (b ∷ rest) none = absurd (omega arith)
 pub taken_all : (whole : Stream) (most : ℕ) (sent : List Object) (rest : List ℕ) → whole ≡ behind [] sent (records_in most rest) → length rest ≡ 0 → finished whole ≡ Ok ([], sent)
 taken_all whole most sent rest so_far none = nothing_left whole most sent rest so_far (no_bytes rest none)
 
--- a whole stream behind commands and objects
+-- a whole stream after commands and objects
 abbrev pub and_more : List Command → List Object → Result (List Command × List Object) StreamFault → Result (List Command × List Object) StreamFault
 and_more commands objects (Ok held) = Ok (commands ++ held.0, objects ++ held.1)
 and_more commands objects (Err fault) = Err fault
 
--- and so where it ends
+-- a stream that ends here, after commands and objects
 pub finished-behind : (commands : List Command) (objects : List Object) (s : Stream) → finished (behind commands objects s) ≡ and_more commands objects (finished s)
 finished-behind commands objects (Flows others more true []) = refl
 finished-behind commands objects (Flows others more true (b ∷ rest)) = refl
@@ -75,12 +75,12 @@ told_at [] others Open fault some told = absurd (omega arith)
 told_at (b ∷ bs) others Open fault some told = cc
 told_at text others (Wrong why) fault some told = cc
 
--- the same of an error
+-- the same for an error
 tells_at : (text : List ℕ) (others : List ℕ → Stream) (at : RecordAt) (error : BodyError) → 0 < length text → TellsRecord at error → TellsStreamFault (after_record text others at) error
 tells_at text others at (Fault fault) some told = told_at text others at fault some told
 tells_at text others at Memory some told = tt
 
--- a record that is not right
+-- a record that is not valid
 pub tells_record : (whole : Stream) (most : ℕ) (sent : List Object) (rest : List ℕ) (error : BodyError) → 0 < length rest → length rest ≤ most → whole ≡ behind [] sent (records_in most rest) → TellsRecord (record_at rest) error → TellsStreamFault whole error
 tells_record whole zero sent rest error some fits so_far told = absurd (omega arith)
 tells_record whole (suc most) sent rest error some fits so_far told =

@@ -28,7 +28,7 @@ after_record_within text others (Taken object rest) is all = behind_within [] (o
 after_record_within text others Open is all = tt
 after_record_within text others (Wrong fault) is all = tt
 
--- records hold no longer ones
+-- records hold no longer objects
 records_within : (most : ℕ) (text : List ℕ) → AreWithin (sent_in (records_in most text))
 records_within zero text = tt
 records_within (suc most) text = after_record_within text (records_in most) (record_at text) (record_is text) (λ rest. records_within most rest)
@@ -40,12 +40,12 @@ after_command_within text others (Err command.Syntax) all = tt
 after_command_within text others (Err command.TooMany) all = tt
 after_command_within text others (Err command.Truncated) all = tt
 
--- what holds of both branches holds of the test
+-- what holds of both branches holds of the choice
 either : (b : Bool) (x y : Stream) → AreWithin (sent_in x) → AreWithin (sent_in y) → AreWithin (sent_in (cond b x y))
 either true x y left right = left
 either false x y left right = right
 
--- a stream holds no longer ones, whatever room there is
+-- a stream holds no longer objects, whatever room there is
 header_within : (room : ℕ) (text : List ℕ) → AreWithin (sent_in (header_in room text))
 header_within room [] = tt
 header_within zero (b ∷ bs) = either (eqb b 10) _ _ (records_within (length bs) bs) (after_command_within (b ∷ bs) (λ rest. Breaks TooMany) (command_at (b ∷ bs)) (λ rest. tt))

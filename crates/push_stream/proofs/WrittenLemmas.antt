@@ -45,7 +45,7 @@ small n fits = omega arith
 pub three_words : (digits word number : List ℕ) → digits ++ 32 ∷ word ++ 32 ∷ number ≡ digits ++ 32 ∷ (word ++ 32 ∷ number)
 three_words digits word number = append_assoc digits (32 ∷ word) (32 ∷ number)
 
--- no LF stands in the line of a record
+-- the line of a record has no LF
 line_plain : (object : Object) → length object.bytes ≤ MAX_CONTENT → All (λ b. b ≢ 10) (record_line object)
 line_plain object fits =
     let digits : List ℕ = encode_lower (object_name object) in
@@ -117,7 +117,7 @@ judged object rest found =
     ap (λ (t : Bool). cond t (right (object_name object) object rest) (Wrong (WrongName (object_name object)))) ((bytes_eq-Decides (object_name object) (object_name object)).1 refl)
     ∙ ap (λ (t : Bool). cond t (Taken object rest) (Wrong (BadObject (object_name object)))) (is_found (object_in object.kind object.bytes) found)
 
--- the line of a record, and what stands behind
+-- the line of a record, and what follows
 pub record_parts : (object : Object) (rest : List ℕ) → record_of object ++ rest ≡ record_line object ++ 10 ∷ (object.bytes ++ 10 ∷ rest)
 unfolding record_of
 record_parts object rest =
@@ -147,7 +147,7 @@ records_again (suc most) (object ∷ objects) are within fits =
     let shorter : length (records_of objects) < length (records_of (object ∷ objects)) = record_shorter (records_of (object ∷ objects)) object (records_of objects) taken in
     ap (after_record (records_of (object ∷ objects)) (records_in most)) taken ∙ ap (behind [] (object ∷ [])) (records_again most objects are.1 within.1 (omega arith))
 
--- command lines, an empty line, and what stands behind
+-- command lines, an empty line, and what follows
 header_again : (room : ℕ) (lines rest : List ℕ) (commands : List Command) → commands_in room lines ≡ Ok commands → header_in room (lines ++ 10 ∷ rest) ≡ behind commands [] (records_in (length rest) rest)
 header_again room [] rest commands is =
     let none : [] ≡ commands = cc in
@@ -182,7 +182,7 @@ pub append-none : (commands : List Command) (objects : List Object) → behind c
 append-none [] objects = refl
 append-none (command ∷ commands) objects = ap (behind (command ∷ []) []) (append-none commands objects)
 
--- and behind command lines
+-- and after command lines
 pub spelled_flows : (bytes : List ℕ) (commands : List Command) (objects : List Object) → IsStream bytes commands objects → stream_of bytes ≡ Flows commands objects true []
 unfolding stream_of commands_of
 spelled_flows bytes commands objects is =

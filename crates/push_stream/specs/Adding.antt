@@ -1,4 +1,4 @@
--- What a text adds to a stream, as the code has it.
+-- What a text adds to a stream, as the code represents it.
 use Rattle.std.specs.Prelude.{◌≡◌, ◌++◌, ◌+◌, ◌≤◌, ℕ, Bool, false, List, [], length}
 use Rattle.git_reftx.specs.declared.reading.TheConstants.{MAX_COMMANDS}
 use Rattle.push_stream.specs.declared.gaining.Added.{Added}

@@ -9,7 +9,7 @@ use Rattle.push_stream.specs.declared.sent.Sent.{Sent}
 use Rattle.push_stream.specs.Reading.{Flow, Going, Broken, Reading, added_in}
 use Rattle.push_stream.specs.Stream.{Flows, Breaks, stream_of}
 
--- what was sent so far; nothing if the stream is broken
+-- what was sent so far; none if the stream is broken
 abbrev pub told_in : Flow → List Sent
 told_in (Going commands sent headed rest) = sent
 told_in (Broken fault) = []
@@ -38,12 +38,12 @@ pub record OpensGoing (header tail : List ℕ) (count : ℕ) (commands : List Co
   pub asks : stream_of header ≡ Flows commands [] headed []
   -- nothing in the rest is complete
   pub waits : added_in headed (length commands) rest ≡ Flows [] [] headed rest
-  -- before the empty line nothing was sent
+  -- nothing was sent before the empty line
   pub bare : headed ≡ false → sent ≡ []
   pub left : tail ≡ rest
   pub counted : length header + (records_size sent + length rest) ≡ count
 
--- a header and a tail, together of at most this many bytes, with which a stream breaks this way
+-- a header and a tail, together of at most this many bytes, that break a stream with this fault
 pub record OpensBroken (header tail : List ℕ) (count : ℕ) (fault : StreamFault) : Type 0 where
   pub breaks : stream_of (header ++ tail) ≡ Breaks fault
   pub short : length header ≤ MAX_HEADER

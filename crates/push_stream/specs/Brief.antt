@@ -14,7 +14,7 @@ abbrev pub brief_of : Result (List Command × List Object) StreamFault → Resul
 brief_of (Ok held) = Ok (held.0, map object_name held.1)
 brief_of (Err fault) = Err fault
 
--- what a brief stands for
+-- the value of a brief
 abbrev pub brief_shown : Result Brief StreamFault → Result BriefValue StreamFault
 brief_shown (Ok brief) = Ok (brief.commands.items, brief.names.items)
 brief_shown (Err fault) = Err fault

@@ -1,4 +1,4 @@
--- What is at the start of a text that continues, and why nothing valid is.
+-- What is at the start of a text that continues, or why nothing valid is there.
 use Rattle.std.specs.Prelude.{◌≡◌, ◌++◌, ◌<◌, ℕ, Bool, true, false, List, [], length, ⊤}
 use Rattle.git_reftx.specs.declared.command.Command.{Command}
 use Rattle.push_stream.specs.declared.fault.BodyError.{BodyError}
@@ -40,7 +40,7 @@ headed_by false left = Flows [] [] false left
 abbrev pub Awaits : List ℕ → ℕ → Type 0
 Awaits text wanted = (more : List ℕ) → length (text ++ more) < wanted → record_at (text ++ more) ≡ Open
 
--- the end is at the end of the text
+-- the text ends in `end`
 abbrev pub EndsIn : List ℕ → List ℕ → Type 0
 EndsIn end text = (front : List ℕ) × (text ≡ front ++ end)
 

@@ -56,11 +56,11 @@ abbrev pub rest_of : List ℕ → Option (List ℕ) → List ℕ
 rest_of bytes None = bytes
 rest_of bytes (Some rest) = rest
 
--- what a draft stands for
+-- the reading of a draft
 abbrev pub reading_at : Draft → Reading
 reading_at draft = reading_from draft.mark draft.commands.items draft.sent.items (rest_of draft.bytes.items (option_map (λ rest. rest.items) draft.rest))
 
--- the header and the tail of a draft, and what it stands for
+-- the header and the tail of a draft, and its reading
 abbrev pub opening_at : Draft → Opening
 opening_at draft = record { header = draft.header.items; tail = rest_of draft.bytes.items (option_map (λ rest. rest.items) draft.rest); reading = reading_at draft }
 
@@ -72,15 +72,15 @@ reading_with count commands sent added = record { count = count; flow = Going (c
 abbrev pub opening_with : ℕ → List ℕ → List Command → List Sent → Added → Opening
 opening_with count header commands sent added = record { header = header ++ added.header.items; tail = added.rest.items; reading = reading_with count commands sent added }
 
--- what of a draft is kept
+-- the reading of what is kept of a draft
 abbrev pub reading_kept : Kept → Draft → Reading
 reading_kept kept draft = reading_from kept.mark (take kept.commands draft.commands.items) (take kept.sent draft.sent.items) (take kept.bytes draft.bytes.items)
 
--- the same of what is kept
+-- the header, the tail and the reading of what is kept of a draft
 abbrev pub opening_kept : Kept → Draft → Opening
 opening_kept kept draft = record { header = take kept.header draft.header.items; tail = take kept.bytes draft.bytes.items; reading = reading_kept kept draft }
 
--- a reading within its limits; until there are this many bytes its record stays unfinished
+-- a reading within its limits; its record stays unfinished until there are this many bytes
 pub record IsStanding (reading : Reading) (wanted : ℕ) : Type 0 where
   pub few : reading.count ≤ MAX_UPLOAD
   pub short : length (rest_in reading.flow) ≤ MAX_REST
@@ -94,14 +94,14 @@ pub record Grows (old new : Draft) : Type 0 where
   pub sent : Begins old.sent.items new.sent.items
   pub bytes : Begins old.bytes.items new.bytes.items
 
--- what is kept of a draft is there
+-- a draft has all that is kept of it
 pub record HasKept (kept : Kept) (draft : Draft) : Type 0 where
   pub header : kept.header ≤ length draft.header.items
   pub commands : kept.commands ≤ length draft.commands.items
   pub sent : kept.sent ≤ length draft.sent.items
   pub bytes : kept.bytes ≤ length draft.bytes.items
 
--- a draft is what was kept of it
+-- the new draft is what was kept of the old one
 pub record RollsBack (kept : Kept) (old new : Draft) : Type 0 where
   pub header : new.header.items ≡ take kept.header old.header.items
   pub commands : new.commands.items ≡ take kept.commands old.commands.items

@@ -53,7 +53,7 @@ added (Broken fault) piece = Breaks fault
 abbrev pub gained : Flow → List ℕ → List Object
 gained flow piece = sent_in (added flow piece)
 
--- the same with these commands and objects before the others
+-- a state with these commands and objects before its own
 abbrev pub noted : List Command → List Sent → Flow → Flow
 noted commands sent (Going others more headed rest) = Going (commands ++ others) (sent ++ more) headed rest
 noted commands sent (Broken fault) = Broken fault
@@ -71,7 +71,7 @@ read_on reading piece = record { count = reading.count + length piece; flow = fl
 abbrev pub gained_by : List ℕ → List ℕ → List Object
 gained_by bytes piece = drop (length (sent_in (stream_of bytes))) (sent_in (stream_of (bytes ++ piece)))
 
--- a stream that ends here
+-- the brief of a stream that ends here
 abbrev pub finished_flow : Flow → Result BriefValue StreamFault
 finished_flow (Going commands sent true []) = Ok (commands, map (λ one. one.name) sent)
 finished_flow (Going commands sent true (b ∷ rest)) = Err Truncated

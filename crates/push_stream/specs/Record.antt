@@ -38,12 +38,12 @@ head_of_words words = None
 pub data PartsAt : Type 0 where
   -- what its line says, the content, and what follows its last LF
   Parts : (head : Head) (content behind : List ℕ) → PartsAt
-  -- the beginning of a record that may still be valid, or nothing
+  -- the beginning of a record that may still become valid, or an empty text
   Short : PartsAt
   -- what is wrong with it
   Faulty : (fault : StreamFault) → PartsAt
 
--- a content ends in LF
+-- the parts of a record, if LF follows its content
 abbrev pub parts_of_content : Head → List ℕ → List ℕ → PartsAt
 parts_of_content head content [] = Short
 parts_of_content head content (b ∷ behind) = if b == 10 then Parts head content behind else Faulty Syntax
@@ -69,7 +69,7 @@ parts_at text = parts_of_line (line_at text)
 pub data RecordAt : Type 0 where
   -- a valid record's object, and what follows the record
   Taken : (object : Object) (behind : List ℕ) → RecordAt
-  -- the beginning of a record that may still be valid, or nothing
+  -- the beginning of a record that may still become valid, or an empty text
   Open : RecordAt
   -- what is wrong with the record
   Wrong : (fault : StreamFault) → RecordAt

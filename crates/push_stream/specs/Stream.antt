@@ -19,7 +19,7 @@ pub data Stream : Type 0 where
   -- the fault of its first wrong item
   Breaks : (fault : StreamFault) → Stream
 
--- the same with these commands and objects before the others
+-- a stream with these commands and objects before its own
 abbrev pub behind : List Command → List Object → Stream → Stream
 behind commands objects (Flows others more headed rest) = Flows (commands ++ others) (objects ++ more) headed rest
 behind commands objects (Breaks fault) = Breaks fault
@@ -35,7 +35,7 @@ abbrev pub records_in : ℕ → List ℕ → Stream
 records_in zero text = Flows [] [] true text
 records_in (suc most) text = after_record text (records_in most) (record_at text)
 
--- if there is no command at the start of a text: its line is unfinished, or wrong
+-- a text without a command at its start: its first line is unfinished, or wrong
 abbrev pub no_command : List ℕ → CommandFault → Stream
 no_command text command.Syntax = Breaks Syntax
 no_command text command.TooMany = Breaks TooMany
@@ -63,7 +63,7 @@ finished (Flows commands objects true (b ∷ rest)) = Err Truncated
 finished (Flows commands objects false rest) = Err Truncated
 finished (Breaks fault) = Err fault
 
--- the objects that were sent, none if there is a fault
+-- the objects that were sent; none if there is a fault
 abbrev pub sent_in : Stream → List Object
 sent_in (Flows commands objects headed rest) = objects
 sent_in (Breaks fault) = []

@@ -17,7 +17,7 @@ pub struct Body {
     pub objects: Vec<Sealed>,
 }
 
-/// What the bytes of a whole stream hold.
+/// Reads a whole stream from its bytes.
 pub fn read_body(alloc: Global, bytes: &[u8]) -> Result<Body, BodyError>
     ensures found { IfOk result (λ body. finished (stream_of bytes.now) ≡ Ok (body.commands.items, body.objects.items)) }
     ensures exact { IfErr result (TellsStreamFault (stream_of bytes.now)) }
@@ -29,7 +29,7 @@ pub fn read_body(alloc: Global, bytes: &[u8]) -> Result<Body, BodyError>
     }
 }
 
-// The commands, and what follows the empty line.
+// Reads the commands. Returns them and what follows the empty line.
 fn read_header(alloc: Global, bytes: &[u8]) -> Result<(Vec<Command>, &[u8]), BodyError>
     ensures found { IfOk result (λ p. stream_of bytes.now ≡ behind p.0.items [] (records_in (length p.1.now) p.1.now)) }
     ensures exact { IfErr result (TellsStreamFault (stream_of bytes.now)) }
@@ -52,7 +52,7 @@ fn read_header(alloc: Global, bytes: &[u8]) -> Result<(Vec<Command>, &[u8]), Bod
     Err(BodyError::Fault(StreamFault::Truncated))
 }
 
-// What follows an empty line.
+// What follows an empty line at the start.
 pub(crate) fn behind_empty_line(text: &[u8]) -> Option<&[u8]>
     ensures found { IfSome result (λ behind. text.now ≡ 10 ∷ behind.now) }
     ensures none { IfNone result ((behind : List ℕ) → text.now ≢ 10 ∷ behind) }
@@ -63,7 +63,7 @@ pub(crate) fn behind_empty_line(text: &[u8]) -> Option<&[u8]>
     }
 }
 
-// Takes the command at the start of a text, and returns what follows its line.
+// Takes the command at the start of a text. Returns it and what follows its line.
 fn take_command(alloc: Global, text: &[u8]) -> Result<(Command, &[u8]), BodyError>
     ensures taken { IfOk result (λ p. command_at text.now ≡ Ok (p.0, p.1.now)) }
     ensures exact { IfErr result (λ error. (others : List ℕ → Stream) → TellsStreamFault (after_command text.now others (command_at text.now)) error) }
@@ -75,7 +75,7 @@ fn take_command(alloc: Global, text: &[u8]) -> Result<(Command, &[u8]), BodyErro
     }
 }
 
-// What is wrong with the stream if there is no command.
+// The fault of a stream whose next command has this fault.
 fn fault_of(fault: CommandFault) -> StreamFault
     ensures { (text : List ℕ) → finished (no_command text fault) ≡ Err result }
 {
@@ -86,7 +86,7 @@ fn fault_of(fault: CommandFault) -> StreamFault
     }
 }
 
-// The objects of the records up to the end of a text.
+// Reads the objects of the records up to the end of a text.
 fn read_records(alloc: Global, text: &[u8]) -> Result<Vec<Sealed>, BodyError>
     ensures found { IfOk result (λ sent. finished (records_in (length text.now) text.now) ≡ Ok ([], sent.items)) }
     ensures exact { IfErr result (TellsStreamFault (records_in (length text.now) text.now)) }

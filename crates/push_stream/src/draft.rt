@@ -1,4 +1,4 @@
-// An upload with the piece that is looked at, which may not be taken.
+// An upload with the piece that is looked at, which may still be dropped.
 ghost use Rattle.std.specs.Prelude.{◌≡◌, ◌≤◌, ◌<◌, ◌+◌, ◌++◌, None, true, false, [], IfOk, IsTrue, OnOk, OnErr, length, map};
 ghost use Rattle.git_name.specs.Text.{Begins};
 ghost use Rattle.push_stream.specs.declared.upload.TheConstants.{MAX_UPLOAD};
@@ -19,13 +19,13 @@ use std::alloc::{AllocError, Global};
 pub(crate) struct Mark {
     pub(crate) count: u64,
     pub(crate) headed: bool,
-    // Until the rest has this many bytes, its record stays unfinished.
+    // The rest stays an unfinished record until it has this many bytes.
     pub(crate) wanted: usize,
     pub(crate) fault: Option<StreamFault>,
 }
 
 impl Mark {
-    // Nothing was received yet.
+    // The state before anything is received.
     pub(crate) fn new() -> Mark
         ensures count { result.count ≡ 0 }
         ensures headed { result.headed ≡ false }
@@ -41,21 +41,21 @@ impl Mark {
     }
 }
 
-// What was received of a stream. Lists only grow, so that what they were can be recovered.
+// What was received of a stream. Its lists only grow, so that what they were can be recovered.
 #[derive(Debug, Drop)]
 pub(crate) struct Draft {
     // The whole command lines, and the empty line.
     pub(crate) header: Vec<u8>,
     pub(crate) commands: Vec<Command>,
     pub(crate) sent: Vec<Sent>,
-    // What was not finished and what was copied after it; if the stream broke, what broke it.
+    // The unfinished rest and what was copied after it. If the stream broke, what broke it.
     pub(crate) bytes: Vec<u8>,
-    // The unfinished rest, if it is not all bytes.
+    // The unfinished rest, if it is not all of `bytes`.
     pub(crate) rest: Option<Vec<u8>>,
     pub(crate) mark: Mark,
 }
 
-// Reads on by one piece. An `Err`, which means lack of memory, only lets the lists grow.
+// Reads one more piece. An `Err` means lack of memory, and only lets the lists grow.
 pub(crate) fn read_piece(alloc: Global, draft: &mut Draft, piece: &[u8]) -> Result<Step, AllocError>
     requires whole { draft.old.rest ≡ None }
     requires standing { IsStanding (reading_at draft.old) draft.old.mark.wanted }
@@ -103,8 +103,7 @@ pub(crate) fn read_piece(alloc: Global, draft: &mut Draft, piece: &[u8]) -> Resu
     }
 }
 
-// Copies, after the unfinished rest, what its record needs of a piece, and returns what is left of the
-// piece.
+// Copies what the unfinished record needs of a piece, after the rest. Returns what is left of the piece.
 fn complete<'x>(bytes: &mut Vec<u8>, wanted: usize, piece: &'x [u8]) -> Result<&'x [u8], AllocError>
     ensures begins { Begins bytes.old.items bytes.new.items }
     ensures parted { IfOk result (λ left. bytes.old.items ++ piece.now ≡ bytes.new.items ++ left.now) }
@@ -116,8 +115,8 @@ fn complete<'x>(bytes: &mut Vec<u8>, wanted: usize, piece: &'x [u8]) -> Result<&
     Ok(left)
 }
 
-// How many of the next bytes complete the record of a rest of this many bytes, out of `wanted`: none if
-// there is no rest, and all if its record's length is not known.
+// How many of the next `come` bytes complete a record that has `rest` of its `wanted` bytes: none if there is
+// no rest, and all if the record's length is not known.
 fn lacking(wanted: usize, rest: usize, come: usize) -> usize
     ensures { result ≤ come }
 {
@@ -130,7 +129,7 @@ fn lacking(wanted: usize, rest: usize, come: usize) -> usize
     come.min(wanted - rest)
 }
 
-// A step that brings nothing.
+// A step without objects.
 fn no_objects(alloc: Global, is_fault: bool) -> Step
     ensures objects { result.objects.items ≡ [] }
     ensures fault { result.is_fault ≡ is_fault }
@@ -152,7 +151,7 @@ fn is_short(mark: Mark, len: usize) -> bool
     len < mark.wanted
 }
 
-// Notes what a text added.
+// Adds to the draft what a text added.
 fn note(alloc: Global, draft: &mut Draft, added: Added, count: u64) -> Result<Step, AllocError>
     ensures header { Begins draft.old.header.items draft.new.header.items }
     ensures commands { Begins draft.old.commands.items draft.new.commands.items }
@@ -197,7 +196,7 @@ fn note(alloc: Global, draft: &mut Draft, added: Added, count: u64) -> Result<St
     })
 }
 
-// What is known of objects.
+// What is known of these objects.
 fn told_of(alloc: Global, objects: &[Sealed]) -> Result<Vec<Sent>, AllocError>
     ensures { IfOk result (λ told. told.items ≡ map sent_of objects.now) }
 {

@@ -1,11 +1,10 @@
 use git_name::Name;
 use thiserror::Error;
 
-/// What is wrong with a stream: the fault of its first wrong item. A name is the one that the record's
-/// line gives.
+/// Why a stream is not valid: the fault of its first wrong item. A name is the one in the record's line.
 #[derive(Clone, Copy, Debug, PartialEq, Eq, Error)]
 pub enum StreamFault {
-    #[error("no right item")]
+    #[error("the item is malformed")]
     Syntax,
     #[error("there are more than 256 commands")]
     TooMany,

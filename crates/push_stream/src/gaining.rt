@@ -18,7 +18,7 @@ use git_name::Sealed;
 use git_reftx::{Command, CommandFault, MAX_COMMANDS, ReadError, first_command};
 use std::alloc::Global;
 
-// What a text adds, whether the empty line was read, and what of the text is not finished.
+// What a text adds, whether the empty line was read, and the unfinished rest of the text.
 #[derive(Debug, Drop)]
 pub(crate) struct Added {
     // The text's whole command lines, and the empty line.
@@ -27,7 +27,7 @@ pub(crate) struct Added {
     pub(crate) objects: Vec<Sealed>,
     pub(crate) headed: bool,
     pub(crate) rest: Vec<u8>,
-    // Until the rest and what follows have this many bytes, it stays unfinished.
+    // The rest stays unfinished until it and what follows have this many bytes.
     pub(crate) wanted: usize,
 }
 
@@ -66,9 +66,9 @@ pub(crate) fn add(alloc: Global, headed: bool, had: usize, text: &[u8]) -> Resul
     })
 }
 
-// What two texts add after the empty line, if the first ends where a record ends. Each is read in
-// place. It returns nothing if the second is empty, if the two do not read this way, or if memory runs
-// out: then the caller reads them as one text, which reports why.
+// What two texts add after the empty line, if the first ends at the end of a record. Each is read in place.
+// Returns `None` if the second is empty, if the two do not read this way, or if memory runs out. The caller
+// then reads them as one text, and that reports why.
 pub(crate) fn add_in_turn(
     alloc: Global,
     headed: bool,
@@ -111,7 +111,7 @@ pub(crate) fn add_in_turn(
 }
 
 #[tactic(auto, using(crate::proofs::RestLemmas::open_short))]
-// The same for a text of records, with this header and these commands before it.
+// What a text of records adds, with this header and these commands before it.
 fn add_objects(
     alloc: Global,
     header: Vec<u8>,
@@ -204,7 +204,7 @@ fn whole_records(alloc: Global, text: &[u8]) -> Result<(Vec<Sealed>, &[u8]), Bod
     Ok((objects, left))
 }
 
-// The command at the start of a text and what follows its line, or nothing if it is unfinished.
+// The command at the start of a text and what follows its line, or `None` if it is unfinished.
 fn next_command(alloc: Global, text: &[u8]) -> Result<Option<(Command, &[u8])>, BodyError>
     ensures taken { IfOk result (λ found. IfSome found (λ p. command_at text.now ≡ Ok (p.0, p.1.now))) }
     ensures unfinished { IfOk result (λ found. IfNone found (command_at text.now ≡ Err Truncated)) }
@@ -219,7 +219,7 @@ fn next_command(alloc: Global, text: &[u8]) -> Result<Option<(Command, &[u8])>, 
     }
 }
 
-// The record at the start of a text and what follows it, or nothing if it is unfinished.
+// The record at the start of a text and what follows it, or `None` if it is unfinished.
 fn next_record(alloc: Global, text: &[u8]) -> Result<Option<(Sealed, &[u8])>, BodyError>
     ensures taken { IfOk result (λ found. IfSome found (λ p. record_at text.now ≡ Taken p.0 p.1.now)) }
     ensures unfinished { IfOk result (λ found. IfNone found (record_at text.now ≡ Open)) }

@@ -30,10 +30,10 @@ pub(crate) struct Kept {
     pub(crate) bytes: usize,
 }
 
-/// A stream that is read as it is received, in pieces, of at most 33,554,432 bytes. Its objects are
-/// handed out as soon as they are complete. Of its bytes only the unfinished rest is kept, and of its
-/// objects the names, kinds and lengths. Contracts see what is known of the bytes received, and what
-/// would be with the piece that was looked at last.
+/// A stream of at most 33,554,432 bytes, read in pieces as it is received. Each object is handed out as soon
+/// as it is complete. The header's text, the unfinished rest, and the names, kinds and lengths of the objects
+/// are kept. Contracts see what is known of the bytes received, and what would be known with the piece that
+/// was looked at last.
 #[derive(Debug, Drop)]
 pub struct Incoming {
     draft: Draft,
@@ -54,7 +54,7 @@ impl Model for Incoming {
 
 impl Incoming {
     #[tactic(auto, unfolding(crate::specs::Stream::stream_of))]
-    /// An upload of which nothing was received yet.
+    /// An upload before anything is received.
     pub fn new(alloc: Global) -> Incoming
         ensures brief { result.brief ≡ reading_of [] }
     {
@@ -76,7 +76,7 @@ impl Incoming {
         Incoming { draft, kept }
     }
 
-    /// How many bytes were received.
+    /// The number of bytes received.
     pub fn count(&self) -> u64
         ensures value { result ≡ self.now.brief.count }
         ensures within { result ≤ MAX_UPLOAD }
@@ -102,7 +102,7 @@ impl Incoming {
         &self.draft.bytes[..self.kept.bytes]
     }
 
-    /// What was sent so far, in the stream's order; nothing if the stream is wrong.
+    /// What was sent so far, in the stream's order; empty if the stream is wrong.
     pub fn sent(&self) -> &[Sent]
         ensures { result.now ≡ told_in self.now.brief.flow }
     {
@@ -113,9 +113,9 @@ impl Incoming {
         sent
     }
 
-    /// The parts of bytes that open this upload again, for any objects with the names, kinds and lengths
-    /// that were sent: the bytes have the reading that this upload has, and hold exactly these objects.
-    /// Zero bytes stand for those received after the stream broke, of which only the number is kept.
+    /// Returns the parts of bytes that open this upload again, for any objects with the names, kinds and
+    /// lengths that were sent. The bytes have the reading that this upload has, and hold exactly these
+    /// objects. Zero bytes replace those received after the stream broke, since only their number is kept.
     pub fn again(&self) -> Again<'_>
         ensures read { (objects : List Object) → AreObjects objects → AreWithin objects → map sent_of objects ≡ told_in self.now.brief.flow → reading_of (result.header.now ++ (records_of objects ++ (result.tail.now ++ replicate result.zeros 0))) ≡ self.now.brief }
         ensures sent { (objects : List Object) → AreObjects objects → AreWithin objects → map sent_of objects ≡ told_in self.now.brief.flow → sent_in (stream_of (result.header.now ++ (records_of objects ++ (result.tail.now ++ replicate result.zeros 0)))) ≡ objects }
@@ -134,8 +134,8 @@ impl Incoming {
         }
     }
 
-    /// What one more piece would add. The upload keeps its value, even after an `Err`, which means lack of
-    /// memory. What was looked at before is forgotten.
+    /// Returns what one more piece would add. The upload keeps its value, even after an `Err`, which means
+    /// lack of memory. The piece that was looked at before is forgotten.
     pub fn look(&mut self, alloc: Global, piece: &[u8]) -> Result<Step, AllocError>
         requires { self.old.brief.count + length piece.now ≤ MAX_UPLOAD }
         ensures brief { self.new.brief ≡ self.old.brief }
@@ -163,7 +163,7 @@ impl Incoming {
         };
     }
 
-    /// Forgets what was looked at. It allocates nothing.
+    /// Forgets the piece that was looked at. It allocates nothing.
     pub fn leave(&mut self)
         ensures brief { self.new.brief ≡ self.old.brief }
         ensures looked { self.new.looked ≡ self.old.brief }
@@ -187,7 +187,7 @@ impl Incoming {
         Ok(step)
     }
 
-    /// What the stream holds, if it ends here: its commands, and the names of what was sent.
+    /// Returns what the stream holds if it ends here: its commands, and the names of what was sent.
     pub fn finish(&self, alloc: Global) -> Result<Brief, BodyError>
         ensures found { IfOk result (λ brief. finished_flow self.now.brief.flow ≡ Ok (brief.commands.items, brief.names.items)) }
         ensures exact { IfErr result (TellsEnd self.now.brief.flow) }
@@ -202,7 +202,7 @@ impl Incoming {
     }
 }
 
-// How many of the bytes received are missing, if this many are there and the stream is broken.
+// How many of the bytes received are missing, if the stream is broken and `there` are kept.
 fn missing(mark: &Mark, there: usize) -> u64
     requires { there ≤ mark.now.count }
     ensures going { is_some mark.now.fault ≡ false → result ≡ 0 }
@@ -282,7 +282,7 @@ fn roll_back(draft: &mut Draft, kept: &Kept)
     draft.mark = kept.mark;
 }
 
-// Reads on by one piece from what was kept of a draft. An `Err` restores the draft.
+// Reads one more piece after what was kept of a draft. An `Err` restores the draft.
 fn look_at(alloc: Global, draft: &mut Draft, kept: &Kept, piece: &[u8]) -> Result<Step, AllocError>
     requires held { IsHeld kept.now draft.old }
     requires fits { kept.now.mark.count + length piece.now ≤ MAX_UPLOAD }

@@ -35,7 +35,7 @@ pub fn spelled_streams_are_whole()
     ensures whole { (bytes : List ℕ) (commands : List Command) (objects : List Object) → IsStream bytes commands objects → finished (stream_of bytes) ≡ Ok (commands, objects) }
 {}
 
-/// A law, with no code to run: only such streams are whole.
+/// A law, with no code to run: only streams spelled as command lines and records are whole.
 pub fn whole_streams_are_spelled()
     ensures { (bytes : List ℕ) (commands : List Command) (objects : List Object) → finished (stream_of bytes) ≡ Ok (commands, objects) → IsStream bytes commands objects }
 {}

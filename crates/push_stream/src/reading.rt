@@ -4,10 +4,10 @@ ghost use Rattle.push_stream.specs.declared.record.TheConstants.{MAX_REST};
 ghost use Rattle.push_stream.specs.Reading.{finished_flow, gained, gained_by, read_on, reading_of, rest_in};
 ghost use Rattle.push_stream.specs.Stream.{finished, stream_of};
 
-/// A law, with no code to run: what a piece adds to a stream, the objects that it brings and what is
-/// known of the stream after it, depends only on the piece and on what was known before. That is the
-/// state of the stream: its commands, the names, kinds and lengths of its objects, its unfinished rest,
-/// and how many bytes were received. It is no earlier content.
+/// A law, with no code to run: what a piece adds to a stream depends only on the piece and on what was known
+/// before. It adds objects, and it changes what is known of the stream. That is the stream's state: its
+/// commands, the names, kinds and lengths of its objects, its unfinished rest, and how many bytes were
+/// received. No earlier content is part of it.
 pub fn briefs_suffice()
     ensures brief { (xs ys piece : List ℕ) → reading_of xs ≡ reading_of ys → reading_of (xs ++ piece) ≡ reading_of (ys ++ piece) }
     ensures objects { (xs ys piece : List ℕ) → reading_of xs ≡ reading_of ys → gained_by xs piece ≡ gained_by ys piece }

@@ -13,11 +13,11 @@ use git_object::Object;
 use git_reftx::{Line, first_line};
 use std::alloc::Global;
 
-/// The most bytes of an object's content that a host takes (own).
+/// The greatest length of an object's content, in bytes, that a host takes (own).
 pub const MAX_CONTENT: usize = 8_388_608;
 
-/// The most bytes of a stream that stay unfinished (own): a record's line of 79 bytes, its LF, and a
-/// content.
+/// The greatest length of a stream's unfinished rest in bytes (own): a record's line of 79 bytes, its LF, and
+/// a content.
 pub const MAX_REST: usize = MAX_CONTENT + 80;
 
 // What a record's line says.
@@ -33,14 +33,14 @@ pub(crate) struct Head {
 pub(crate) enum Parts<'a> {
     // What its line says, the content, and what follows its last LF.
     Whole(Head, &'a [u8], &'a [u8]),
-    // The beginning of a record that may still be valid, or nothing.
+    // The beginning of a record that may still become valid, or an empty text.
     Open,
     // What is wrong with it.
     Wrong(StreamFault),
 }
 
 #[tactic(auto, unfolding(crate::specs::Record::record_at))]
-// Takes the record at the start of a text, and returns what follows it.
+// Takes the record at the start of a text. Returns its object and what follows.
 pub(crate) fn take_record(alloc: Global, text: &[u8]) -> Result<(Sealed, &[u8]), BodyError>
     ensures taken { IfOk result (λ p. record_at text.now ≡ Taken p.0 p.1.now) }
     ensures exact { IfErr result (TellsRecord (record_at text.now)) }
@@ -79,7 +79,7 @@ fn first_parts(text: &[u8]) -> Parts<'_>
     }
 }
 
-// What a record's line says.
+// Reads a record's line.
 fn read_head(line: &[u8]) -> Option<Head>
     ensures { result ≡ head_of_words (words_of line.now) }
 {
@@ -100,7 +100,7 @@ fn head_of(digits: &[u8], word: &[u8], number: &[u8]) -> Option<Head>
     Some(Head { name, kind, size })
 }
 
-// The content after a record's line, which ends in LF.
+// Takes the content after a record's line, and the LF that ends it.
 fn take_content(head: Head, text: &[u8]) -> Parts<'_>
     ensures { record_parts_shown result ≡ content_at head text.now }
 {
@@ -118,8 +118,8 @@ fn take_content(head: Head, text: &[u8]) -> Parts<'_>
     }
 }
 
-// The record at the start of a text stays unfinished until the text has this many bytes; 0 if its line
-// is incomplete.
+// The record at the start of a text stays unfinished until the text has this many bytes. Returns 0 if the
+// record's line is incomplete.
 pub(crate) fn awaited(text: &[u8]) -> usize
     ensures { Awaits text.now result }
 {
@@ -133,7 +133,7 @@ pub(crate) fn awaited(text: &[u8]) -> usize
     }
 }
 
-// The bytes of a record whose line has this many, with its two LF.
+// The length of a record whose line has `line` bytes, with its two LF.
 fn awaited_behind(line: usize, head: Head) -> usize
     requires { line ≤ 512 }
     ensures whole { head.size ≤ MAX_CONTENT → result ≡ line + 2 + head.size }

@@ -1,2 +1,2 @@
-/// The most bytes of an upload in parts (own).
+/// The greatest length of an upload in parts, in bytes (own).
 pub const MAX_UPLOAD: usize = 33_554_432;

@@ -9,13 +9,12 @@ use itoa::Buffer;
 use std::alloc::{AllocError, Global};
 
 /// The most bytes of a record besides its content: a name, a word of six letters, twenty digits, two
-/// spaces and two ends of lines.
+/// spaces and two line feeds.
 pub const BESIDE: usize = 94;
 
 #[tactic(auto, unfolding(crate::specs::Record::record_of))]
-/// Appends the record of an object to a text, as `git cat-file --batch` prints it (git-cat-file(1)).
-/// The object has this kind and these bytes, and the name is its own. Returns nothing if memory runs
-/// out.
+/// Appends the record of an object to a text, as `git cat-file --batch` prints it (git-cat-file(1)). The
+/// object has this kind and these bytes, and the name is its own. If memory runs out, the text is lost.
 pub fn add_record(
     text: Vec<u8>,
     name: Name,
@@ -40,7 +39,7 @@ pub fn add_record(
     Ok(text)
 }
 
-/// The record of an object alone.
+/// Returns the record of one object.
 pub fn write_record(alloc: Global, sealed: &Sealed) -> Result<Vec<u8>, AllocError>
     ensures { IfOk result (λ text. text.items ≡ record_of sealed.now) }
 {

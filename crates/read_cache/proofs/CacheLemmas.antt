@@ -17,7 +17,7 @@ use Rattle.git_name.specs.Same.{same_name}
 one_name : (x y : List ℕ) → same_name x y ≡ true → x ≡ y
 one_name x y e = (slice_eq-Decides Decides-eqb x y (same_name x y) refl).0 e
 
--- what a look-up finds is there, under the very name
+-- a look-up finds only what is cached, under exactly this name
 pub found_there : (es : List (List ℕ × Object)) (name : List ℕ) (o : Option Object) → o ≡ lookup (same_name name) es → IfSome o (λ object. Contains es (name, object))
 found_there es name None e = tt
 found_there es name (Some object) e =
@@ -32,7 +32,7 @@ put_there c object n o there = by (Contains-put_entries same_name c (object_name
     by (inr (is, inl key)) = inr (key, is)
     by (inr (is, inr old)) = inr (sym (one_name (object_name object) n old.2), is)
 
--- a name that no key ties
+-- a name that equals no key equals the name of no entry
 none_ties : (es : List (List ℕ × Object)) (k n : List ℕ) (o : Object) → AllByRecursion (λ y. same_name k y ≡ false) (keys_of es) → Contains es (n, o) → same_name k n ≡ false
 none_ties [] k n o none there = absurd (omega (arith, there.1))
 none_ties (e ∷ es) k n o none (zero, within, is) = ap (same_name k) (sym (ap (λ (p : List ℕ × Object). p.0) is)) ∙ none.0
@@ -65,7 +65,7 @@ pub put_of : (c : LruCache (List ℕ) Object) (es : List (List ℕ × Object)) (
 put_of c es object n o (inl same) there = inl (subst (λ l. Contains l (n, o)) same there)
 put_of c es object n o (inr (is, small)) there = put_there c object n o (subst (λ l. Contains l (n, o)) is there)
 
--- what is cached stays fit where a small object is put
+-- a cache stays fit if a small object is put
 pub fit_of : (c : LruCache (List ℕ) Object) (es : List (List ℕ × Object)) (object : Object) → (es ≡ c.entries) ⊎ (es ≡ put_entries same_name c (object_name object) object) × (length object.bytes ≤ 65536) → AreFit c.entries → AreFit es
 fit_of c es object (inl same) fit n o there = fit n o (subst (λ l. Contains l (n, o)) same there)
 fit_of c es object (inr (is, small)) fit n o there = by (put_there c object n o (subst (λ l. Contains l (n, o)) is there))

@@ -1,4 +1,4 @@
--- What a survey noted, as files and notes change.
+-- What a survey noted stays known as files and notes change.
 use Rattle.std.proofs.Common.{◌≡◌, ℕ, Bool, true, false, cond, List, Some, refl, sym, ap, subst, ◌∙◌, IsTrue, length}
 use Rattle.std.specs.FinMap.{empty, get, get-empty, get-insert, insert}
 use Rattle.std.specs.declared.cmp.Ordering.{Ordering}
@@ -22,11 +22,11 @@ is_equal Greater e = cc
 pub tied_names : (q k : List ℕ) → eq_by_cmp name_cmp q k ≡ true → q ≡ k
 tied_names q k same = name_exact q k (is_equal (name_cmp q k) same)
 
--- nothing is noted
+-- if nothing is noted
 pub known_none : (honest : Bool) (files : Files) (surveyed : Surveyed) → surveyed ≡ empty → AreKnown honest files surveyed
 known_none honest files surveyed none name kind size is = absurd (cc (sym (get-empty {X = Kind × ℕ} name_cmp name) ∙ ap (λ (m : Surveyed). get m name) (sym none) ∙ is))
 
--- the store is as it was
+-- for an unchanged store
 pub known_at : (h k : Bool) (fs gs : Files) (surveyed : Surveyed) → k ≡ h → (IsTrue h → gs ≡ fs) → AreKnown h fs surveyed → AreKnown k gs surveyed
 known_at h k fs gs surveyed same files known name kind size is =
     let one = known name kind size is in
@@ -38,7 +38,7 @@ known_at h k fs gs surveyed same files known name kind size is =
       whole = λ honest. (let was = sym same ∙ honest in subst (λ f. Whole f name one.object) (sym (files was)) (one.whole was));
     }
 
--- an object more is noted, which stands whole
+-- after an object with a whole file is noted
 pub known_more : (honest : Bool) (files : Files) (object : Object) (old new : Surveyed) → (IsTrue honest → Whole files (object_name object) object) → new ≡ insert old (object_name object) (object.kind, length object.bytes) → AreKnown honest files old → AreKnown honest files new
 known_more honest files object old new whole put known name kind size is = by (eq_by_cmp name_cmp name (object_name object)) refl (sym (found name) ∙ is)
   where

@@ -1,4 +1,4 @@
--- That each file of a sure store is whole, as files change.
+-- Each file of a sure store stays whole as files change.
 use Rattle.std.proofs.Common.{◌≡◌, ℕ, Bool, true, false, cond, List, None, Some, refl, sym, ap, subst, ◌∙◌, IsTrue}
 use Rattle.std.specs.FinMap.{empty, get, get-empty, get-insert, get-remove, insert, remove}
 use Rattle.std.specs.Ordering.{eq_by_cmp}
@@ -10,21 +10,21 @@ use Rattle.loose_store.specs.Stored.{Whole}
 use Rattle.read_cache.specs.Cached.{HasWholeFiles, IsSure}
 use Rattle.read_cache.proofs.KnownLemmas.{tied_names}
 
--- the store is as it was
+-- for an unchanged store
 pub sure_at : (sure h k : Bool) (fs gs : Files) → k ≡ h → (IsTrue h → gs ≡ fs) → IsSure sure h fs → IsSure sure k gs
 sure_at sure h k fs gs same files is held =
     let was = is held in
     (same ∙ was.0, subst HasWholeFiles (sym (files was.0)) was.1)
 
--- a store that is not sure
+-- for a store that is not sure
 pub sure_none : (sure h : Bool) (fs : Files) → sure ≡ false → IsSure sure h fs
 sure_none sure h fs none held = (let no : ⊥ = cc in absurd no)
 
--- one that has no files
+-- for a store without files
 pub sure_fresh : (sure h : Bool) (fs : Files) → (sure ≡ true → IsTrue h) → (sure ≡ true → fs ≡ empty) → IsSure sure h fs
 sure_fresh sure h fs honest none held = (honest held, λ name bytes is. absurd (cc (sym (get-empty {X = List ℕ} name_cmp name) ∙ ap (λ (f : Files). get f name) (sym (none held)) ∙ is)))
 
--- a whole file more
+-- after a whole file is put
 pub sure_put : (sure h k : Bool) (fs gs : Files) (object : Object) → k ≡ h → (IsTrue h → gs ≡ insert fs (object_name object) (typed_bytes object)) → IsSure sure h fs → IsSure sure k gs
 sure_put sure h k fs gs object same put is held = (same ∙ (is held).0, λ name bytes found. by name bytes found (eq_by_cmp name_cmp name (object_name object)) refl)
   where
@@ -44,7 +44,7 @@ sure_put sure h k fs gs object same put is held = (same ∙ (is held).0, λ name
         let was = (is held).1 name bytes (sym stays ∙ found) in
         (was.0, record { file = stays ∙ was.1.file; named = was.1.named })
 
--- a file less
+-- after a file is removed
 pub sure_removed : (sure h k : Bool) (fs gs : Files) (gone : List ℕ) → k ≡ h → (IsTrue h → gs ≡ remove fs gone) → IsSure sure h fs → IsSure sure k gs
 sure_removed sure h k fs gs gone same put is held = (same ∙ (is held).0, λ name bytes found. by name bytes found (eq_by_cmp name_cmp name gone) refl)
   where

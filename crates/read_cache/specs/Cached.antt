@@ -19,23 +19,23 @@ cached_code = coded_list (coded× (coded_list coded_ℕ) sealed.the_row.coded)
 abbrev pub AreFit : Cached → Type 0
 AreFit entries = (name : List ℕ) (object : Object) → Contains entries (name, object) → (object_name object ≡ name) × (length object.bytes ≤ 65536)
 
--- each object stands whole on the store
+-- each object has its whole file in the store
 abbrev pub AreWhole : Cached → Files → Type 0
 AreWhole entries files = (name : List ℕ) (object : Object) → Contains entries (name, object) → Whole files name object
 
--- each file is whole of some object, under its name
+-- each file is the whole file of some object
 abbrev pub HasWholeFiles : Files → Type 0
 HasWholeFiles files = (name bytes : List ℕ) → get files name ≡ Some bytes → (object : Object) × Whole files name object
 
--- where a store is sure, it is honest, and each of its files is whole
+-- if a store is sure, it is honest, and each of its files is whole
 abbrev pub IsSure : Bool → Bool → Files → Type 0
 IsSure sure honest files = sure ≡ true → IsTrue honest × HasWholeFiles files
 
--- a file is that of some object of this name
+-- the file is that of some object with this name
 abbrev pub IsFileOf : List ℕ → List ℕ → Type 0
 IsFileOf file name = (object : Object) × (file ≡ typed_bytes object) × (object_name object ≡ name)
 
--- an object of this name is found, and the file is its own
+-- an object with this name is found, and this is its file
 abbrev pub OpensFile : List ℕ → List ℕ → Option Object → Type 0
 OpensFile file name None = ⊥
 OpensFile file name (Some object) = (file ≡ typed_bytes object) × (object_name object ≡ name)

@@ -9,7 +9,7 @@ use Rattle.git_name.specs.contracts.kind.Kind as kind
 use Rattle.loose_store.specs.Files.{Files}
 use Rattle.loose_store.specs.Stored.{Whole}
 
--- an object of this name is of this kind and of so many bytes, and over an honest store it stands whole on it
+-- an object of this name has this kind and size, and an honest store has its whole file
 pub record IsKnown (honest : Bool) (files : Files) (name : List ℕ) (kind : Kind) (size : ℕ) : Type 0 where
   pub object : Object
   pub named : object_name object ≡ name
@@ -25,6 +25,6 @@ Surveyed = FinMap name_cmp (Kind × ℕ)
 abbrev pub surveyed_code : Coded Surveyed
 surveyed_code = code (coded_list coded_ℕ) (coded× kind.the_row.coded coded_ℕ)
 
--- each of them is known
+-- each of the surveyed objects is known
 abbrev pub AreKnown : Bool → Files → Surveyed → Type 0
 AreKnown honest files surveyed = (name : List ℕ) (kind : Kind) (size : ℕ) → get surveyed name ≡ Some (kind, size) → IsKnown honest files name kind size

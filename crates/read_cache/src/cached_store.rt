@@ -14,9 +14,9 @@ use loose_store::{FileFault, LooseFiles, StoreFault, content_of, one_object, rea
 use std::alloc::{AllocError, Global};
 use std::marker::Model;
 
-/// A store with a cache of the objects that were read last, and with what a survey of it found. Its value is that
-/// of the store. Over an honest store, the whole file of each cached or surveyed object is there. If the store
-/// was fresh, every file in it was written here, whole, so it is not hashed again.
+/// A store with a cache of the objects that were read last, and with the results of a survey. Its value is that of the
+/// store. Over an honest store, each cached or surveyed object has its whole file. If the store was fresh, every file
+/// in it was written here, whole, so it is not hashed again.
 #[derive(Drop)]
 pub struct CachedStore<S: LooseFiles> {
     files: S,
@@ -45,7 +45,7 @@ impl<S: LooseFiles> Model for CachedStore<S> {
 }
 
 impl<S: LooseFiles + Drop> CachedStore<S> {
-    /// Over this store, with an empty cache.
+    /// Wraps a store, with an empty cache.
     pub fn new(alloc: Global, files: S) -> Result<CachedStore<S>, AllocError>
         ensures contents { IfOk result (λ store. store.contents ≡ S.contents files) }
         ensures honest { IfOk result (λ store. store.honest ≡ S.honest files) }
@@ -64,7 +64,7 @@ impl<S: LooseFiles + Drop> CachedStore<S> {
 }
 
 impl<S: LooseFiles> CachedStore<S> {
-    /// The store.
+    /// Returns the store.
     pub fn close(self) -> S
         ensures contents { S.contents result ≡ self.contents }
         ensures honest { S.honest result ≡ self.honest }
@@ -78,8 +78,8 @@ impl<S: LooseFiles> CachedStore<S> {
         self.files.hashing()
     }
 
-    /// The object of this name, if there is a file for it, from the cache or from the store. What is read from the
-    /// store is cached.
+    /// Reads the object of this name, if it has a file, from the cache or from the store. Caches what it reads from the
+    /// store.
     pub fn read(&mut self, alloc: Global, name: Name) -> Result<Option<Sealed>, StoreFault>
         ensures reads { IsTrue self.old.honest → ReadsTo self.old.contents name result }
         ensures kept { IsTrue self.old.honest → self.new.contents ≡ self.old.contents }
@@ -102,7 +102,7 @@ impl<S: LooseFiles> CachedStore<S> {
         lent(&self.files, name)
     }
 
-    /// The same as `read`, but only from the store, and without caching it.
+    /// Reads the object of this name as `read` does, but only from the store, and without caching it.
     pub fn read_past(&mut self, alloc: Global, name: Name) -> Result<Option<Sealed>, StoreFault>
         ensures reads { IsTrue self.old.honest → ReadsTo self.old.contents name result }
         ensures kept { IsTrue self.old.honest → self.new.contents ≡ self.old.contents }
@@ -110,13 +110,13 @@ impl<S: LooseFiles> CachedStore<S> {
         ensures named { IfOk result (λ found. IfSome found (λ sealed. object_name sealed ≡ name)) }
         ensures honest { self.new.honest ≡ self.old.honest }
         ensures cause { CountsCachedRead self.old.failures self.new.failures result }
-        // It was asked: a store that failed 2^64 - 1 times answers nothing.
+        // The store was asked: one that failed 2^64 - 1 times answers nothing.
         ensures asked { CountsAsked self.old.failures self.new.failures result }
     {
         read_checked(alloc, &mut self.files, name)
     }
 
-    /// The same as `read_past`, and adds the object to the survey that `knows` looks in.
+    /// Reads the object of this name as `read_past` does, and adds it to the survey that `knows` looks in.
     pub fn survey(&mut self, alloc: Global, name: Name) -> Result<Option<Sealed>, StoreFault>
         ensures reads { IsTrue self.old.honest → ReadsTo self.old.contents name result }
         ensures kept { IsTrue self.old.honest → self.new.contents ≡ self.old.contents }
@@ -170,28 +170,28 @@ impl<S: LooseFiles> CachedStore<S> {
         Err(fault)
     }
 
-    /// The caller relies on the file of this name, which was there: the next `sync` includes it.
+    /// Notes that the caller relies on an existing file: the next `sync` includes it.
     pub fn rely_on(&mut self, name: Name) -> Result<(), AllocError>
         ensures { self.new ≡ self.old }
     {
         self.files.rely_on(name)
     }
 
-    /// Makes the files that were put, or relied on, survive a loss of power. After a failure it always fails.
+    /// Makes the files that were put, or relied on, survive a loss of power. After `Device` every later call fails too.
     pub fn sync(&mut self, alloc: Global) -> Result<(), FileFault>
         ensures { self.new ≡ self.old }
     {
         self.files.sync(alloc)
     }
 
-    /// Does some of the work of the next `sync`, if that has much to do.
+    /// Does some of the work of the next `sync`, if there is much.
     pub fn sync_ahead(&mut self, alloc: Global) -> Result<(), FileFault>
         ensures { self.new ≡ self.old }
     {
         self.files.sync_ahead(alloc)
     }
 
-    /// Whether a removed file would be back if the store were opened again.
+    /// Whether a removed file would come back if the store were opened again.
     pub fn has_removed(&self) -> bool {
         self.files.has_removed()
     }
@@ -222,7 +222,7 @@ impl<S: LooseFiles> CachedStore<S> {
 
 ghost use Rattle.read_cache.specs.Cached.{HasWholeFiles, AreWhole, IsFileOf, IsSure, OpensFile};
 
-// The object of a name, from the cache or from the store. A sure store is in memory, so it is read directly.
+// Reads the object of a name from the cache or from the store. A sure store is in memory, so it is read directly.
 fn read_through<S: LooseFiles>(
     alloc: Global,
     files: &mut S,
@@ -251,7 +251,7 @@ fn read_through<S: LooseFiles>(
     read_and_keep(alloc, files, cache, name)
 }
 
-// The object of a name, from the store. It is cached.
+// Reads the object of a name from the store, and caches it.
 fn read_and_keep<S: LooseFiles>(
     alloc: Global,
     files: &mut S,
@@ -286,7 +286,7 @@ fn lent<S: LooseFiles>(files: &S, name: Name) -> Option<(Kind, &[u8])>
     files.lend(name)
 }
 
-// The object of a name, from a store in which each file is whole.
+// Reads the object of a name from a store in which each file is whole.
 fn read_unhashed<S: LooseFiles>(
     alloc: Global,
     files: &mut S,
@@ -347,7 +347,7 @@ fn opened(alloc: Global, file: &[u8], name: Name) -> Result<Option<Sealed>, Stor
     Ok(Some(seal_as(kind, content, name)))
 }
 
-// The object of a name, from the store. It is added to the survey.
+// Reads the object of a name from the store, and adds it to the survey.
 fn read_and_note<S: LooseFiles>(
     alloc: Global,
     files: &mut S,

@@ -47,7 +47,7 @@ impl ReadCache {
         })
     }
 
-    /// A copy of the object of a name. It becomes the most recently used.
+    /// A copy of the object of a name, if it is cached. It becomes the most recently used.
     pub fn find(&mut self, name: Name) -> Result<Option<Sealed>, AllocError>
         ensures found { IfOk result (λ found. IfSome found (λ sealed. Contains self.old (name, sealed))) }
         ensures named { IfOk result (λ found. IfSome found (λ sealed. object_name sealed ≡ name)) }
@@ -56,7 +56,7 @@ impl ReadCache {
         cached(&mut self.kept, name)
     }
 
-    /// How much every cache holds at most. It does nothing; proofs call it for its clauses.
+    /// States how much any cache holds at most. It does nothing; proofs call it for its clauses.
     pub fn bounds(&self)
         ensures few { length self.now ≤ 256 }
         ensures small { (n : List ℕ) (o : Object) → Contains self.now (n, o) → length o.bytes ≤ 65536 }

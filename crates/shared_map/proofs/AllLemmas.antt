@@ -1,4 +1,4 @@
--- What holds of each of a list, and of the lists of which it is made.
+-- What holds of each element of a list, and of the lists that make it up.
 use Rattle.std.proofs.Common.{ℕ, suc, zero, ◌<◌, List, [], ◌∷◌, ◌++◌, length, get_or, arith}
 use Rattle.std.specs.List.{AllByRecursion}
 

@@ -28,7 +28,7 @@ sorted_of (e ∷ es) rises = (heads e es rises.0, sorted_of es rises.1)
 pub entries_risen : (es : Entries) → Rises es → map.entries (map.from_entries {R = name_cmp} es) ≡ es
 entries_risen es rises = entries_of_ordered name_total es (sorted_of es rises)
 
--- the same entries with and without one between them
+-- entries in order stay in order without one between them
 pub rises_without : (before : Entries) (key : List ℕ) (o : Option (List ℕ)) (behind : Entries) → Rises (before ++ (kept key o ++ behind)) → Rises (before ++ behind)
 rises_without [] key None behind rises = rises
 rises_without [] key (Some v) behind rises = rises.1

@@ -63,7 +63,7 @@ appended_behind : (done : Bool) (c es : Entries) (e : Entry) → c ++ appended d
 appended_behind true c es e = sym (append_assoc c es (e ∷ []))
 appended_behind false c es e = refl
 
--- the last chunk with one entry more
+-- the last chunk with one more entry
 pub last_appended : (done : Bool) (cs : List Entries) (at : ℕ) (last new : Entries) (e : Entry) → length cs ≡ suc at → last ≡ get_or cs at last → new ≡ appended done last e
     → joined (slice_set cs at new) ≡ appended done (joined cs) e
 last_appended done [] at last new e is found now = absurd (omega arith)

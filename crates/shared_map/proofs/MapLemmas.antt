@@ -30,7 +30,7 @@ parted key cs at spot is =
     ∙ ap (λ es. joined (take at cs) ++ (es ++ joined (drop (at + 1) cs))) is.parts
     ∙ regroup (joined (take at cs)) (take spot.at (get_or cs at [])) (kept key spot.value) (drop spot.past (get_or cs at [])) (joined (drop (at + 1) cs))
 
--- the same of what was built
+-- the entries around a key, after a chunk is rebuilt
 pub built : (key : List ℕ) (cs : List Entries) (at : ℕ) (spot : Spot) (value : Option (List ℕ)) (new : List Entries) → joined new ≡ joined (take at cs) ++ (changed (get_or cs at []) spot key value ++ joined (drop (at + 1) cs))
     → joined new ≡ front_of cs at spot ++ (kept key value ++ back_of cs at spot)
 built key cs at spot value new is = is ∙ regroup (joined (take at cs)) (take spot.at (get_or cs at [])) (kept key value) (drop spot.past (get_or cs at [])) (joined (drop (at + 1) cs))
@@ -133,7 +133,7 @@ are_changed key cs new len others after at spot value are before behind is now f
 pub is_there : (key : List ℕ) (cs : List Entries) (len at : ℕ) (spot : Spot) → AreChunks cs len → IsSpot key (get_or cs at []) spot → length (kept [] spot.value) ≤ len
 is_there key cs len at spot are is = some_there key cs len (front_of cs at spot) (back_of cs at spot) spot.value are (parted key cs at spot is)
 
--- the first key from another one on, by halves
+-- the first key from another one on, by binary search
 pub first_none : (key : List ℕ) (cs : List Entries) (at k : ℕ) → AreBefore key (joined (take at cs)) → (AreBefore key (get_or cs at []) → joined (drop (at + 1) cs) ≡ []) → length (get_or cs at []) ≤ k → AreBefore key (take k (get_or cs at []))
     → find (λ other. not (is_lt (name_cmp other key))) (mapped (λ e. e.0) (joined cs)) ≡ None
 first_none key cs at k before last past within =
@@ -164,7 +164,7 @@ rest_of past cs = take_all (length cs - past) (drop past cs) (let size = length-
 pub count_is : (es : Entries) (count : ℕ) (m : finite.FinMap name_cmp (List ℕ)) → Rises es → count ≡ length es → finite.from_entries es ≡ m → count ≡ finite.len m
 count_is es count m rises is shown = is ∙ ap (λ (l : Entries). length l) (sym (entries_risen es rises)) ∙ sym (finite.len-entries (finite.from_entries es)) ∙ ap finite.len shown
 
--- a key behind all others
+-- a key after all others
 pub chunks_appended : (key value : List ℕ) (cs new : List Entries) (len after : ℕ) → AreChunks cs len → AreBefore key (joined cs) → joined new ≡ joined cs ++ (key, value) ∷ [] → AreFull new → after ≡ len + 1 → AreChunks new after
 chunks_appended key value cs new len after are before now full more =
     chunks_changed key cs new len len after (joined cs) [] None (Some value) are (sym (append-nil (joined cs))) now before tt full (omega arith) more

@@ -1,4 +1,4 @@
--- How many entries come before a key, by halves.
+-- How many entries come before a key, by binary search.
 use Rattle.std.proofs.Common.{◌≡◌, ◌≢◌, ℕ, suc, zero, ◌<◌, true, false, List, [], ◌∷◌, ◌++◌, inl, inr, sym, subst, ◌∙◌, length, get_or, take, drop, arith, Less}
 use Rattle.std.specs.List.{AllByRecursion}
 use Rattle.git_name.specs.Name.{name_cmp}
@@ -48,7 +48,7 @@ behind_reached key (e ∷ es) rest rises (inr later) = behind_reached key es res
 pub behind_own : (key : List ℕ) (x : Entry) (xs : Entries) → Rises (x ∷ xs) → x.0 ≡ key → AreBehind key xs
 behind_own key x xs rises is = all_more (λ f. name_cmp x.0 f.0 ≡ Less) (λ f. name_cmp key f.0 ≡ Less) (λ f less. subst (λ k. name_cmp k f.0 ≡ Less) is less) xs rises.0
 
--- entries of which the first does not come before the key, and has another, come after it
+-- if the first entry does not come before the key, and has another key, all entries come after the key
 pub behind_other : (key : List ℕ) (x : Entry) (xs : Entries) → Rises (x ∷ xs) → is_before key x ≡ false → x.0 ≢ key → AreBehind key (x ∷ xs)
 behind_other key x xs rises not_so apart =
     (behind_apart x.0 key not_so apart, all_more (λ f. name_cmp x.0 f.0 ≡ Less) (λ f. name_cmp key f.0 ≡ Less) (λ f less. behind_later x.0 f.0 key less not_so) xs rises.0)

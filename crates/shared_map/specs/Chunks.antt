@@ -27,19 +27,19 @@ Rises (e ∷ es) = AllByRecursion (λ f. name_cmp e.0 f.0 ≡ Less) es × Rises 
 abbrev pub is_before : List ℕ → Entry → Bool
 is_before key e = is_lt (name_cmp e.0 key)
 
--- all keys do
+-- all keys come before this one
 abbrev pub AreBefore : List ℕ → Entries → Type 0
 AreBefore key es = AllByRecursion (λ e. is_before key e ≡ true) es
 
--- none does
+-- no key comes before this one
 abbrev pub AreNotBefore : List ℕ → Entries → Type 0
 AreNotBefore key es = AllByRecursion (λ e. is_before key e ≡ false) es
 
--- all come after it
+-- all keys come after this one
 abbrev pub AreBehind : List ℕ → Entries → Type 0
 AreBehind key es = AllByRecursion (λ e. name_cmp key e.0 ≡ Less) es
 
--- one does not come before it
+-- some key does not come before this one
 abbrev pub Reaches : List ℕ → Entries → Type 0
 Reaches key [] = ⊥
 Reaches key (e ∷ es) = (is_before key e ≡ false) ⊎ Reaches key es

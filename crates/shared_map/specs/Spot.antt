@@ -3,7 +3,7 @@ use Rattle.std.specs.Prelude.{◌≡◌, ℕ, ◌≤◌, List, ◌++◌, length,
 use Rattle.shared_map.specs.declared.spot.Spot.{Spot}
 use Rattle.shared_map.specs.Chunks.{Entries, AreBefore, AreBehind, kept}
 
--- those before it, its own, if it is there, and those after it
+-- the entries before the key, its own, if it has one, and those after it
 pub record IsSpot (key : List ℕ) (es : Entries) (spot : Spot) : Type 0 where
   pub parts : es ≡ take spot.at es ++ (kept key spot.value ++ drop spot.past es)
   pub ordered : spot.at ≤ spot.past

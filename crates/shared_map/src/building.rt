@@ -9,13 +9,13 @@ use crate::spot::Spot;
 use git_name::Name;
 use std::alloc::{AllocError, Global};
 
-// The most entries of a chunk.
+// The most entries in a chunk.
 pub(crate) const MOST: usize = 32;
 
-// The most entries of two chunks that are joined.
+// The most entries that two chunks have together if they are joined.
 const FEW: usize = 24;
 
-// The chunks after a change at a key, which is in this chunk at this spot, or would be.
+// The chunks after a change at a key, which is, or would be, in chunk `at` at `spot`.
 pub(crate) fn rebuilt(
     alloc: Global,
     chunks: &[Chunk],
@@ -52,7 +52,7 @@ pub(crate) fn rebuilt(
     Ok(new)
 }
 
-// The chunk before this one if both are small, or else this one.
+// The place of the chunk before this one if the two are small, or else of this one.
 fn first_to_join(chunks: &[Chunk], at: usize) -> usize
     requires { at ≤ length chunks.now }
     ensures { result ≤ at }
@@ -71,7 +71,7 @@ fn first_to_join(chunks: &[Chunk], at: usize) -> usize
     at - 1
 }
 
-// The end of the chunk after this one if both are small, or else of this one.
+// The place after the next chunk if the two are small, or else after this one.
 fn past_to_join(chunks: &[Chunk], at: usize) -> usize
     requires { at ≤ length chunks.now }
     ensures next { min (at + 1) (length chunks.now) ≤ result }
@@ -127,8 +127,7 @@ fn put_kept(
     Ok(())
 }
 
-// How many of so many entries are to be in the first chunk. The last chunk is filled, since names
-// often come in order.
+// How many of `len` entries go into the first chunk. The last chunk is filled, since names often come in order.
 fn front_of(len: usize, is_last: bool) -> usize
     ensures { result ≤ len }
 {
@@ -138,7 +137,7 @@ fn front_of(len: usize, is_last: bool) -> usize
     len / 2
 }
 
-// Appends chunks of these entries: one, or two if they are too many for one.
+// Appends these entries as one chunk, or as two if they are too many for one.
 fn push_parts(
     alloc: Global,
     out: &mut Vec<Chunk>,

@@ -9,7 +9,7 @@ use std::alloc::{AllocError, Global};
 use std::marker::Model;
 use std::rc::Rc;
 
-// Some entries in a row, which its copies share.
+// Some entries in a row, shared by the copies of the chunk.
 #[derive(Drop)]
 pub(crate) struct Chunk {
     entries: Rc<Vec<Entry>>,
@@ -40,8 +40,8 @@ impl Chunk {
         self.entries.as_ref().as_slice()
     }
 
-    // Appends an entry in place, and returns whether it did: not if copies share the chunk, if it has as
-    // many as it may have, or if memory runs out.
+    // Appends an entry in place, and returns whether it did. It does not if copies share the chunk, the chunk
+    // is full, or memory runs out.
     pub(crate) fn push(&mut self, alloc: Global, key: &[u8], value: Name) -> bool
         ensures { self.new ≡ appended result self.old (key.now, value) }
     {
@@ -51,7 +51,7 @@ impl Chunk {
         push_entry(alloc, entries, key, value)
     }
 
-    // The same chunk in memory.
+    // A copy that shares the memory of this chunk.
     pub(crate) fn share(&self) -> Result<Chunk, AllocError>
         ensures { IfOk result (λ chunk. chunk ≡ self.now) }
     {
@@ -87,7 +87,7 @@ fn push_entry(alloc: Global, entries: &mut Vec<Entry>, key: &[u8], value: Name) 
     true
 }
 
-// Appends entries that share their bytes with these.
+// Appends copies of these entries, which share their bytes.
 pub(crate) fn share_all(out: &mut Vec<Entry>, entries: &[Entry]) -> Result<(), AllocError>
     ensures { OnOk result (out.new.items ≡ out.old.items ++ entries.now) }
 {
@@ -98,7 +98,7 @@ pub(crate) fn share_all(out: &mut Vec<Entry>, entries: &[Entry]) -> Result<(), A
     Ok(())
 }
 
-// Appends those of all chunks.
+// Appends copies of the entries of all chunks.
 pub(crate) fn share_entries(out: &mut Vec<Entry>, chunks: &[Chunk]) -> Result<(), AllocError>
     ensures { OnOk result (out.new.items ≡ out.old.items ++ joined chunks.now) }
 {
@@ -108,7 +108,7 @@ pub(crate) fn share_entries(out: &mut Vec<Entry>, chunks: &[Chunk]) -> Result<()
     Ok(())
 }
 
-// Appends the same chunks.
+// Appends copies of these chunks, which share their memory.
 pub(crate) fn share_chunks(out: &mut Vec<Chunk>, chunks: &[Chunk]) -> Result<(), AllocError>
     ensures { OnOk result (out.new.items ≡ out.old.items ++ chunks.now) }
 {

@@ -10,7 +10,7 @@ use std::alloc::{AllocError, Global};
 use std::marker::Model;
 use std::rc::Rc;
 
-// A list of chunks, which its copies share.
+// A list of chunks, shared by its copies.
 #[derive(Drop)]
 pub(crate) struct Chunks {
     list: Rc<Vec<Chunk>>,
@@ -50,7 +50,7 @@ impl Chunks {
         push_last(alloc, list.as_mut_slice(), key, value)
     }
 
-    // The same list in memory.
+    // A copy that shares the memory of this list.
     pub(crate) fn share(&self) -> Result<Chunks, AllocError>
         ensures { IfOk result (λ chunks. chunks ≡ self.now) }
     {
@@ -81,7 +81,7 @@ pub(crate) fn push_to(chunks: &mut Option<Chunks>, alloc: Global, key: &[u8], va
     list.push(alloc, key, value)
 }
 
-// The chunks of a list, or none.
+// The chunks of a list, or none if there is no list.
 pub(crate) fn slice_of(chunks: &Option<Chunks>) -> &[Chunk]
     ensures { result.now ≡ unwrap_or chunks.now [] }
 {
@@ -91,7 +91,7 @@ pub(crate) fn slice_of(chunks: &Option<Chunks>) -> &[Chunk]
     }
 }
 
-// The entries of the chunk at a place, or none.
+// The entries of the chunk at a place, or none if there is no such chunk.
 pub(crate) fn entries_at(chunks: &[Chunk], at: usize) -> &[Entry]
     ensures { result.now ≡ slice_index_or chunks.now at [] }
 {

@@ -42,7 +42,7 @@ impl Entry {
         &self.value
     }
 
-    // The same entry, with the same bytes in memory.
+    // A copy of the entry, which shares the bytes of the key.
     pub(crate) fn share(&self) -> Result<Entry, AllocError>
         ensures { IfOk result (λ entry. entry ≡ self.now) }
     {
@@ -60,7 +60,7 @@ impl Entry {
         self.key().cmp(key).is_lt()
     }
 
-    // Whether the other entry is the same.
+    // Whether the entries are equal.
     pub(crate) fn is_same(&self, other: &Entry) -> bool
         ensures { result ≡ true → self.now ≡ other.now }
     {

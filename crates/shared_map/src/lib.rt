@@ -1,6 +1,6 @@
-//! Names of objects by texts, in the order of these, in chunks that copies of a map share until one
-//! of them changes. A change makes one chunk and the list of the chunks anew, unless it is an append to
-//! what nothing else shares. It leaves all other copies, and this one if memory runs out, as they were.
+//! Maps from texts to names of objects, in the order of the texts, in chunks that copies of a map share until
+//! one of them changes. A change rebuilds one chunk and the list of the chunks, unless it appends to what
+//! nothing else shares. It leaves all other copies as they were, and this one too if memory runs out.
 #![tactic(auto)]
 
 mod building;

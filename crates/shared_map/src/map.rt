@@ -18,8 +18,8 @@ use git_name::Name;
 use std::alloc::{AllocError, Global};
 use std::marker::Model;
 
-/// A map from texts to names of objects. Texts are ordered bytewise. Copies share what is in memory until
-/// one of them changes.
+/// A map from texts to names of objects. Texts are ordered bytewise. Copies share memory until one of them
+/// changes.
 #[derive(Drop)]
 pub struct SharedMap {
     alloc: Global,
@@ -45,7 +45,7 @@ impl Model for SharedMap {
 }
 
 impl SharedMap {
-    /// No texts. It takes no memory.
+    /// A map without texts. It takes no memory.
     pub fn new(alloc: Global) -> SharedMap
         ensures { result ≡ map.empty }
     {
@@ -63,7 +63,7 @@ impl SharedMap {
         self.count
     }
 
-    /// The name of a text.
+    /// The name that a text has.
     pub fn get(&self, key: &[u8]) -> Option<Name>
         ensures { result ≡ map.get self.now key.now }
     {
@@ -104,7 +104,7 @@ impl SharedMap {
         self.change(key, &Some(value))
     }
 
-    /// Removes a text, if it is there. An `Err` leaves the map as it was.
+    /// Removes a text, if the map has it. An `Err` leaves the map as it was.
     pub fn remove(&mut self, key: &[u8]) -> Result<(), AllocError>
         ensures ok { OnOk result (self.new ≡ map.remove self.old key.now) }
         ensures err { OnErr result (self.new ≡ self.old) }
@@ -112,7 +112,7 @@ impl SharedMap {
         self.change(key, &None)
     }
 
-    /// A copy, which shares all that is in memory with this map.
+    /// A copy, which shares all its memory with this map.
     pub fn copy(&self) -> Result<SharedMap, AllocError>
         ensures { IfOk result (λ copied. copied ≡ self.now) }
     {
@@ -127,8 +127,8 @@ impl SharedMap {
         })
     }
 
-    /// Shares with another map what both have alike at the same place in memory, so that this is there
-    /// once. An `Err` leaves the map as it was. Its time is linear in this map.
+    /// Shares with another map what both have at the same place, so that it is in memory once. An `Err`
+    /// leaves the map as it was. Its time is linear in this map.
     pub fn share_with(&mut self, other: &SharedMap) -> Result<(), AllocError>
         ensures { self.new ≡ self.old }
     {
@@ -146,8 +146,8 @@ impl SharedMap {
         Ok(())
     }
 
-    // Gives a text a name in place, and returns whether it did: only if it comes after all others, and
-    // nothing has to be made anew.
+    // Gives a text a name in place, and returns whether it did. It does so only if the text comes after all
+    // others, and nothing has to be rebuilt.
     fn append(&mut self, key: &[u8], value: Name) -> bool
         ensures done { result ≡ true → self.new ≡ map.insert self.old key.now value }
         ensures kept { result ≡ false → self.new ≡ self.old }
@@ -165,7 +165,7 @@ impl SharedMap {
         true
     }
 
-    // From now on a text has this name, or is not there.
+    // Gives a text this name, or removes the text.
     fn change(&mut self, key: &[u8], value: &Option<Name>) -> Result<(), AllocError>
         ensures ok { OnOk result (self.new ≡ set_in self.old key.now value.now) }
         ensures err { OnErr result (self.new ≡ self.old) }
@@ -186,7 +186,7 @@ impl SharedMap {
     }
 }
 
-// The number of texts without one, if it is there.
+// The number of texts without this one, if the map has it.
 fn len_without(len: usize, value: &Option<Name>) -> usize
     requires { length (kept [] value.now) ≤ len }
     ensures { result + length (kept [] value.now) ≡ len }
@@ -197,7 +197,7 @@ fn len_without(len: usize, value: &Option<Name>) -> usize
     len - 1
 }
 
-// The number of texts with one more, if it is to be there.
+// The number of texts with this one, if it gets a name.
 fn len_with(len: usize, value: &Option<Name>) -> Result<usize, AllocError>
     ensures { IfOk result (λ after. after ≡ len + length (kept [] value.now)) }
 {

@@ -4,8 +4,8 @@ ghost use Rattle.shared_map.specs.Chunks.{AreBefore, AreBehind, AreFull, AreNotB
 use crate::chunk::Chunk;
 use crate::entry::Entry;
 
-// Whether all keys come before this one, where there are any. They are in order. Names often come in
-// order too, so this is asked first.
+// Whether there are keys and all come before this one. The entries are in order. Names often come in order
+// too, so this is asked first.
 fn are_before(entries: &[Entry], key: &[u8]) -> bool
     requires { Rises entries.now }
     ensures { result ≡ true → AreBefore key.now entries.now }
@@ -16,7 +16,7 @@ fn are_before(entries: &[Entry], key: &[u8]) -> bool
     entries[entries.len() - 1].is_before(key)
 }
 
-// How many entries have keys before this one, by halves. They are in order.
+// How many entries have keys before this one, by binary search. They are in order.
 pub(crate) fn count_before(entries: &[Entry], key: &[u8]) -> usize
     requires { Rises entries.now }
     ensures within { result ≤ length entries.now }
@@ -39,8 +39,7 @@ pub(crate) fn count_before(entries: &[Entry], key: &[u8]) -> usize
     low
 }
 
-// The chunk in which a key is if it is anywhere: the first that does not end before it, or the last
-// one.
+// The place of the only chunk that can have the key: the first that does not end before it, or the last.
 pub(crate) fn chunk_for(chunks: &[Chunk], key: &[u8]) -> usize
     requires order { Rises (joined chunks.now) }
     requires full { AreFull chunks.now }
@@ -59,7 +58,7 @@ pub(crate) fn chunk_for(chunks: &[Chunk], key: &[u8]) -> usize
     at - 1
 }
 
-// Whether all chunks end before a key, where there are any.
+// Whether there are chunks and all end before a key.
 pub(crate) fn are_chunks_before(chunks: &[Chunk], key: &[u8]) -> bool
     requires order { Rises (joined chunks.now) }
     requires full { AreFull chunks.now }
@@ -71,7 +70,7 @@ pub(crate) fn are_chunks_before(chunks: &[Chunk], key: &[u8]) -> bool
     chunks[chunks.len() - 1].is_before(key)
 }
 
-// How many chunks end before a key, by halves.
+// How many chunks end before a key, by binary search.
 fn count_chunks_before(chunks: &[Chunk], key: &[u8]) -> usize
     requires order { Rises (joined chunks.now) }
     requires full { AreFull chunks.now }

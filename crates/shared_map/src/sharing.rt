@@ -1,11 +1,11 @@
-// Chunks that are in memory once, since two maps have the same.
+// Chunks that two maps have in common are in memory once.
 ghost use Rattle.std.specs.Prelude.{◌≡◌, ◌++◌, ◌∷◌, [], true, IfOk, OnOk};
 
 use crate::chunk::Chunk;
 use crate::entry::Entry;
 use std::alloc::{AllocError, Global};
 
-// The same chunks. One that is the same at its place in the other list is shared with it.
+// A copy of the chunks. A chunk equal to the one at its place in the other list is shared with it.
 pub(crate) fn shared_with(
     alloc: Global,
     chunks: &[Chunk],
@@ -20,7 +20,7 @@ pub(crate) fn shared_with(
     Ok(new)
 }
 
-// Appends the chunk, or rather that of the other list at this place, if it is the same.
+// Appends the chunk, or the equal one at this place in the other list.
 fn push_one(
     out: &mut Vec<Chunk>,
     chunk: &Chunk,
@@ -34,7 +34,7 @@ fn push_one(
     Ok(())
 }
 
-// The chunk, or rather that of the other list at this place, if it is the same.
+// The chunk, or the equal one at this place in the other list.
 fn one_of(chunk: &Chunk, others: &[Chunk], at: usize) -> Result<Chunk, AllocError>
     ensures { IfOk result (λ one. one ≡ chunk.now) }
 {
@@ -48,7 +48,7 @@ fn one_of(chunk: &Chunk, others: &[Chunk], at: usize) -> Result<Chunk, AllocErro
     other.share()
 }
 
-// Whether the entries are the same.
+// Whether the entries are equal.
 fn are_same(entries: &[Entry], others: &[Entry]) -> bool
     ensures { result ≡ true → entries.now ≡ others.now }
 {

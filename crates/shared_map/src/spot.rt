@@ -6,8 +6,7 @@ use crate::entry::Entry;
 use crate::search::count_before;
 use git_name::Name;
 
-// Where a key is among entries: how many come before it, how many do not come after it, and its value,
-// if it is there.
+// Where a key is among entries: how many come before it, how many do not come after it, and its value, if it has one.
 #[derive(Drop)]
 pub(crate) struct Spot {
     pub(crate) at: usize,

@@ -25,7 +25,7 @@ use Rattle.state_text.specs.Offer.{offer_words}
 use Rattle.state_text.proofs.TellingLemmas.{TellsOne, main_head, offered_plain, tells_all, tells_before, tells_behind, tells_changed, tells_last, tells_less, unseen_told}
 use Rattle.state_text.proofs.NewLemmas.{new_told}
 
--- nothing was read yet but the first line
+-- only the first line was read
 abbrev pub nothing_taken : Taken
 nothing_taken = record { states = []; awaits = false }
 
@@ -36,7 +36,7 @@ pub record HasBefore (version : Version) (taken : Taken) : Type 0 where
   pub right : IsRightSoFar version old
   pub adds : Adds version old line taken
 
--- a HEAD that is awaited comes in the second version alone
+-- a HEAD is awaited only in version 2
 new_place : (version : Version) (old new : Taken) (before : States) (tenant : TenantState) (place : Place) → IsLast tenant place → old.states ≡ before ++ tenant ∷ [] → new.states ≡ before ++ with_at tenant place new_repository ∷ [] → old.awaits ≡ false
     → new.awaits ≡ awaits_head version → TellsOne version (with_at tenant place new_repository) → (line : List ℕ) × Adds version old line new
 new_place version old new before tenant (Own name) last was is old_is new_is tells =
@@ -80,7 +80,7 @@ module _ (version : Version) (taken : Taken) (before : States) (tenant : TenantS
       }
 
   module _ (known : taken.awaits ≡ false) where
-    -- an object that is seen came last
+    -- a seen object came last
     back_seen : (seen : List (List ℕ)) (name : List ℕ) → tenant.offers ≡ [] → tenant.seen ≡ seen ++ name ∷ [] → HasBefore version taken
     back_seen seen name none more =
         let old : TenantState = record { name = tenant.name; limit = tenant.limit; repositories = tenant.repositories; seen = seen; offers = tenant.offers } in
@@ -157,7 +157,7 @@ module _ (version : Version) (taken : Taken) (before : States) (tenant : TenantS
           });
         }
 
-    -- what stands last has no references
+    -- the last item has no references
     back_bare : (place : Place) (less : TenantState) (repository : git.Repository) → IsLast less place → tenant ≡ with_at less place repository → repository.references ≡ finite.empty → HasBefore version taken
     back_bare place less repository last at none = either (awaits_head version) refl
       where
@@ -167,7 +167,7 @@ module _ (version : Version) (taken : Taken) (before : States) (tenant : TenantS
             let main : repository.head ≡ main_branch = main_head version less place repository plain (subst (TellsOne version) at told_of) in
             back_begun place less last (at ∙ (λ i. with_at less place (record { head = main i; references = none i }))) (known ∙ sym plain)
 
-    -- it has references, or none
+    -- the last item, with or without references
     back_at : (place : Place) (less : TenantState) (repository : git.Repository) → IsLast less place → tenant ≡ with_at less place repository → HasBefore version taken
     back_at place less repository last at =
         ⊎_elim
@@ -175,7 +175,7 @@ module _ (version : Version) (taken : Taken) (before : States) (tenant : TenantS
         (λ reference. back_reference place less repository reference.front reference.last.0 reference.last.1 last at reference.is)
         (from_back (entries repository.references))
 
-    -- a tenant came last, which has nothing yet
+    -- a tenant came last, and has nothing yet
     back_tenant : tenant.offers ≡ [] → tenant.seen ≡ [] → tenant.repositories ≡ [] → HasBefore version taken
     back_tenant no_offers none nothing = record {
       old = record { states = before; awaits = false };
@@ -209,7 +209,7 @@ module _ (version : Version) (taken : Taken) (before : States) (tenant : TenantS
         (λ i. record { name = tenant.name; limit = tenant.limit; repositories = tenant.repositories; seen = tenant.seen; offers = last.is i }))
         (from_back tenant.offers)
 
--- where a HEAD is awaited, something has just begun
+-- if a HEAD is awaited, something has just begun
 back_awaited : (version : Version) (taken : Taken) → IsRightSoFar version taken → taken.awaits ≡ true → HasBefore version taken
 back_awaited version taken right is =
     let begun = right.begun is in
@@ -219,7 +219,7 @@ back_told : (version : Version) (taken : Taken) → IsRightSoFar version taken �
 back_told version taken right is =
     ⊎_elim (λ none. inl (λ i. record { states = none i; awaits = is i })) (λ last. inr (back_last version taken last.front last.last right last.is is)) (from_back taken.states)
 
--- nothing was taken, or it was other before its last line
+-- either nothing was taken, or there was a last line
 pub back : (version : Version) (taken : Taken) → IsRightSoFar version taken → (taken ≡ nothing_taken) ⊎ HasBefore version taken
 back version taken right = by taken.awaits refl
   where

@@ -48,7 +48,7 @@ pub ascend_none : Ascend []
 unfolding IsStrictlySortedBy
 ascend_none = tt
 
--- the last of names in order is compared alone
+-- of names in order, only the last needs to be compared
 pub follows_all : {A : Type 0} (f : A → List ℕ) (xs : List A) (last : A) (name : List ℕ) → Ascend (map f xs) → slice_get xs (length xs - 1) ≡ Some last → name_cmp (f last) name ≡ Less → AreBefore (map f xs) name
 follows_all f xs last name sorted is first k d within =
     let place = length xs - 1 in
@@ -83,7 +83,7 @@ long_behind xs x = length-append xs (x ∷ [])
 pub length_behind : {A : Type 0} (xs : List A) (x : A) → length (xs ++ x ∷ []) ≡ length xs + 1
 length_behind xs x = long_behind xs x
 
--- lists with the same last element and the same others
+-- equal lists have the same last element and the same others
 pub same_behind : {A : Type 0} (xs ys : List A) (x y : A) → xs ++ x ∷ [] ≡ ys ++ y ∷ [] → (xs ≡ ys) × (x ≡ y)
 same_behind [] [] x y is = (refl, cc)
 same_behind [] (b ∷ ys) x y is = absurd (let long : 1 ≡ length (b ∷ (ys ++ y ∷ [])) = ap (λ l. length l) is in let more = long_behind ys y in omega (arith, more))
@@ -102,7 +102,7 @@ pub get_or_last : {A : Type 0} (xs : List A) (x d : A) → get_or (xs ++ x ∷ [
 get_or_last [] x d = refl
 get_or_last (y ∷ xs) x d = get_or_last xs x d
 
--- what `last` gives is the last one
+-- the element at the last index is the last one
 pub last_is : {A : Type 0} (xs : List A) (x y : A) → slice_get (xs ++ x ∷ []) (length (xs ++ x ∷ []) - 1) ≡ Some y → x ≡ y
 last_is xs x y is =
     let long = long_behind xs x in
@@ -113,7 +113,7 @@ pub nothing_in : {A : Type 0} (xs : List A) → length xs ≤ 0 → xs ≡ []
 nothing_in [] none = refl
 nothing_in (x ∷ xs) none = absurd (omega arith)
 
--- what all stand before, the last one stands before
+-- what comes after all comes after the last one
 pub last_before : {A : Type 0} (f : A → List ℕ) (xs : List A) (last : A) (name : List ℕ) → slice_get xs (length xs - 1) ≡ Some last → AreBefore (map f xs) name → name_cmp (f last) name ≡ Less
 last_before f xs last name is all =
     let place = length xs - 1 in

@@ -52,7 +52,7 @@ has_first version taken right = by taken.awaits refl
 some_lines : (version : Version) (taken : Taken) → IsRightSoFar version taken → 1 ≤ length (open_lines version taken)
 some_lines version taken right = (let long = ap (λ (ls : List (List ℕ)). length ls) (has_first version taken right).first in omega (arith, long))
 
--- each line of what was taken is one
+-- each line of what was taken has no LF
 plain_by : (n : ℕ) (version : Version) (taken : Taken) → length (open_lines version taken) ≤ n → IsRightSoFar version taken → AllByRecursion IsOneLine (open_lines version taken)
 plain_by zero version taken few right = absurd (let some = some_lines version taken right in omega (arith, some, few))
 plain_by (suc n) version taken few right =
@@ -66,7 +66,7 @@ plain_by (suc n) version taken few right =
 pub plain_lines : (version : Version) (taken : Taken) → IsRightSoFar version taken → AllByRecursion IsOneLine (open_lines version taken)
 plain_lines version taken right = plain_by (length (open_lines version taken)) version taken (omega arith) right
 
--- the lines of what was taken decide it
+-- the lines of what was taken determine it
 module _ (version : Version) where
   longer : (p : Taken) (line : List ℕ) → IsRightSoFar version p → open_lines version nothing_taken ≡ open_lines version p ++ line ∷ [] → ⊥
   longer p line right is =
@@ -96,13 +96,13 @@ module _ (version : Version) where
   pub lines_same : (s t : Taken) → IsRightSoFar version s → IsRightSoFar version t → open_lines version s ≡ open_lines version t → s ≡ t
   lines_same s t right other is = same_by (length (open_lines version s)) s t (omega arith) right other is
 
--- what was taken, of which these are the lines
+-- something was taken that has these lines
 pub record HasLines (version : Version) (lines : List (List ℕ)) : Type 0 where
   pub taken : Taken
   pub right : IsRightSoFar version taken
   pub are : open_lines version taken ≡ lines
 
--- the first lines of what was taken are lines of what was taken
+-- the first lines of what was taken are the lines of something taken
 front_by : (n : ℕ) (version : Version) (s : Taken) (first : List ℕ) (front more : List (List ℕ)) → length more ≤ n → IsRightSoFar version s → open_lines version s ≡ (first ∷ front) ++ more → HasLines version (first ∷ front)
 front_by n version s first front [] few right is = record { taken = s; right = right; are = is ∙ append-nil (first ∷ front) }
 front_by zero version s first front (x ∷ more) few right is = absurd (omega (arith, few))
@@ -119,7 +119,7 @@ front_by (suc n) version s first front (x ∷ more) few right is =
     (back version s right))
     (from_back (x ∷ more))
 
--- what was taken with a line more
+-- what was taken with one more line
 pub record HasNext (version : Version) (old : Taken) (line : List ℕ) : Type 0 where
   pub new : Taken
   pub right : IsRightSoFar version new
@@ -145,7 +145,7 @@ all_of states = record { states = states; awaits = false }
 all_plain : (version : Version) (s : States) → IsRightSoFar version (all_of s) → AllByRecursion IsOneLine (told_lines version s ++ codes "end" ∷ [])
 all_plain version s right = each_behind IsOneLine (told_lines version s) (codes "end") (plain_lines version (all_of s) right) end_plain
 
--- a state text that begins with the lines of what was taken, and a line, goes on with the end where no HEAD is awaited, or with what a line says
+-- if a state text begins with the lines of what was taken and one more line, this is the end, with no HEAD awaited, or says something
 pub continues : (version : Version) (p : Taken) (s : States) (line more : List ℕ) → IsRightSoFar version p → IsRightSoFar version (all_of s) → IsOneLine line → state_text version s ≡ flat_map ended (open_lines version p) ++ (line ++ 10 ∷ more)
     → ((line ≡ codes "end") × (p.awaits ≡ false)) ⊎ HasNext version p line
 unfolding state_text
@@ -158,7 +158,7 @@ continues version p s line more right whole plain is =
     inr (next_of version p (all_of s) line last.front right whole parts.0))
     (from_back found.0)
 
--- behind its end a state text has nothing
+-- a state text has nothing after its end
 pub ended_text : (version : Version) (p : Taken) (s : States) (rest : List ℕ) → IsRightSoFar version p → IsRightSoFar version (all_of s) → state_text version s ≡ flat_map ended (open_lines version p) ++ (codes "end" ++ 10 ∷ rest) → rest ≡ []
 unfolding state_text
 ended_text version p s rest right whole is =
@@ -184,7 +184,7 @@ not_whole version p s right whole is =
     (λ has. never_end version has.old p has.line has.adds (sym (same_behind (told_lines version s) (open_lines version has.old) (codes "end") has.line (lines ∙ adds_line version has.old p has.line has.adds)).1))
     (back version p right)
 
--- a text of one version is of one value
+-- a text of one version has one value
 pub text_same : (version : Version) (s t : States) → IsRightSoFar version (all_of s) → IsRightSoFar version (all_of t) → state_text version s ≡ state_text version t → s ≡ t
 unfolding state_text
 text_same version s t right other is =

@@ -1,4 +1,4 @@
--- Texts that are written out, by the definitions.
+-- Example texts that the definitions give.
 use Rattle.std.proofs.Common.{◌≡◌, ◌≢◌, ℕ, ◌+◌, true, false, List, [], ◌∷◌, ◌++◌, codes, refl, sym, ap, subst, ◌∙◌, length, slice_index, append_assoc, rules, arith}
 use Rattle.std.specs.Fmt.{digits}
 use Rattle.std.specs.List.{flat_map}
@@ -77,7 +77,7 @@ two_right e named = record {
   each = (seen_more alice_with_r e with_r_right named (All-nil (λ other. name_cmp other e ≡ Less)), (fresh_right (codes "bob") 1000 plain_bob (omega arith), tt));
 }
 
--- their lines, where those within the repository are given
+-- their lines, given those within the repository
 abbrev lines_with : Version → List ℕ → List (List ℕ) → List ℕ
 lines_with version e inner =
     flat_map ended (version_line version ∷ (((tenant_line (codes "alice") 1000 ∷ (((repository_line (codes "r") ∷ inner) ++ []) ++ (seen_line e ∷ []))) ++ (tenant_line (codes "bob") 1000 ∷ [])) ++ (codes "end" ∷ [])))
@@ -95,14 +95,14 @@ pub the_text_before_heads : (e : List ℕ) → state_text One (two_tenants e) �
 unfolding digits
 the_text_before_heads e = lines_are One e ∙ ap (lines_with One e) (new_lines One (codes "alice") (codes "r") main_branch) ∙ ap (λ t. codes "forkhost state 1\ntenant alice 1000\nrepo r\nsee " ++ t) (append_assoc (encode_lower e) (codes "\n") (codes "tenant bob 1000\nend\n"))
 
--- both texts tell the same states
+-- both texts give the same states
 pub both_texts_tell_them : (e : List ℕ) → IsName e → IsStateText1 (two_tenants e) (state_text One (two_tenants e)) × IsStateText2 (two_tenants e) (state_text Two (two_tenants e))
 both_texts_tell_them e named = (
   record { right = two_right e named; tells = (record { heads = (refl, tt); no_offers = refl }, (record { heads = tt; no_offers = refl }, tt)); spelled = refl },
   record { right = two_right e named; tells = tt; spelled = refl },
 )
 
--- behind `repo r` stands its HEAD
+-- `repo r` was read, and its HEAD is awaited
 abbrev begun : Taken
 begun = record { states = alice_with_r ∷ []; awaits = true }
 
@@ -125,7 +125,7 @@ head_awaited new line (Reference rest is goes adds) = absurd (let was = goes.was
 head_awaited new line (Seen rest is goes adds) = absurd (let was = goes.was in cc)
 head_awaited new line (Offer rest is goes adds) = absurd (let was = goes.was in cc)
 
--- whatever stands there and tells no HEAD is the fourth line, and wrong
+-- a fourth line that gives no HEAD is wrong
 fourth : (line behind : List ℕ) → IsOneLine line → ((new : Taken) → IsRightSoFar Two new → SaysHead begun.states line new.states → ⊥) → IsWrongLine (codes "forkhost state 2\ntenant alice 1000\nrepo r\n" ++ (line ++ 10 ∷ behind)) 4
 unfolding digits
 fourth line behind plain none =
@@ -165,7 +165,7 @@ says_offer version old new rest (Reference rest_too is goes adds) known = absurd
 says_offer version old new rest (Seen rest_too is goes adds) known = absurd (let bad : 324 ≡ 331 = ap mark is in omega arith)
 says_offer version old new rest (Offer rest_too is goes adds) known = subst (λ t. AddsOffer version old.states t new.states) (sym (append_cancel_left (codes "offer ") rest rest_too is)) adds
 
--- an offer that is refused behind what was taken
+-- an offer that is refused after what was taken
 refused_offer : (version : Version) (taken : Taken) (rest behind : List ℕ) → IsRightSoFar version taken → taken.awaits ≡ false → IsOneLine (codes "offer " ++ rest) → ((new : States) → IsStates new → AddsOffer version taken.states rest new → ⊥)
     → IsWrongLine (flat_map ended (open_lines version taken) ++ ((codes "offer " ++ rest) ++ 10 ∷ behind)) (length (open_lines version taken) + 1)
 refused_offer version taken rest behind right known plain none =
@@ -185,7 +185,7 @@ an_offer_to_oneself behind =
     refused_offer Two alice_alone (codes "alice r") behind (alone_right Two) refl (All-from_recursion (λ b. b ≢ 10) (codes "offer alice r") (search (rules, arith)))
     (offer_wrong Two (alice ∷ []) [] alice (codes "alice r") (codes "alice") (codes "r") offering.ToGiver refl plain_alice refl refl)
 
--- the first version knows none
+-- version 1 has no offers
 pub an_offer_in_version_1 : (behind : List ℕ) → IsWrongLine (codes "forkhost state 1\ntenant alice 1000\noffer bob r\n" ++ behind) 3
 unfolding digits
 an_offer_in_version_1 behind =
@@ -210,7 +210,7 @@ offering_right = record {
   begun = λ is. absurd (cc);
 }
 
--- an offer that does not stand behind it is the fifth line, and wrong
+-- a fifth line is wrong if its offer does not come after that one
 fifth : (name behind : List ℕ) → IsOneLine (codes "offer " ++ (codes "bob " ++ name)) → (AreBefore (codes "bob r" ∷ []) (codes "bob " ++ name) → ⊥)
     → IsWrongLine (codes "forkhost state 2\ntenant alice 1000\noffer bob r\nhead refs/namespaces/alice/refs/namespaces/r/refs/heads/main\n" ++ ((codes "offer " ++ (codes "bob " ++ name)) ++ 10 ∷ behind)) 5
 unfolding digits
@@ -225,7 +225,7 @@ offers_out_of_order behind = fifth (codes "a") behind (All-from_recursion (λ b.
 pub the_same_offer_again : (behind : List ℕ) → IsWrongLine (codes "forkhost state 2\ntenant alice 1000\noffer bob r\nhead refs/namespaces/alice/refs/namespaces/r/refs/heads/main\noffer bob r\n" ++ behind) 5
 the_same_offer_again behind = fifth (codes "r") behind (All-from_recursion (λ b. b ≢ 10) (codes "offer bob r") (search (rules, arith))) (λ all. let bad : Equal ≡ Less = all 0 [] (omega arith) in absurd (cc bad))
 
--- 256 offers stand, and no 257th one is read
+-- 256 offers are read, and no 257th one
 pub so_many_offers : MAX_OFFERS ≡ 256
 so_many_offers = refl
 

@@ -25,7 +25,7 @@ use Rattle.state_text.proofs.VersionLemmas.{first_is, in_version, of_version, on
 begins_less : (a b : List ℕ) → BeginsStateText (a ++ b) → BeginsStateText a
 begins_less a b begins = record { states = begins.states; whole = begins.whole; rest = b ++ begins.rest; right = begins.right; parts = begins.parts ∙ append_assoc a b begins.rest }
 
--- a line, behind what it stands
+-- a line moves from the rest to the front
 one_more : (front line more : List ℕ) → (front ++ ended line) ++ more ≡ front ++ (line ++ 10 ∷ more)
 one_more front line more = append_assoc front (ended line) more ∙ ap (λ t. front ++ t) (append_assoc line (10 ∷ []) more)
 
@@ -43,7 +43,7 @@ parts_of : (text : List ℕ) → Parts text
 parts_of [] = Plain (All-nil (λ x. x ≢ 10))
 parts_of (b ∷ text) = parts_more b text (eqb b 10) refl (parts_of text)
 
--- a text of a version, as one of either
+-- a text of one version is a state text
 text_in : (version : Version) (taken : Taken) → IsRightSoFar version taken → IsStateText taken.states (state_text version taken.states)
 text_in version taken right = of_version version taken.states (state_text version taken.states) (record { right = right.right; tells = right.tells; spelled = refl })
 
@@ -72,7 +72,7 @@ of_lines version taken states text rest right is parts =
     let here : IsTextIn version states text = subst (λ v. IsTextIn v states text) same other.is in
     record { right = taken_of version states text here; spelled = here.spelled }
 
--- a line that is not the end, and with which nothing right goes on
+-- a line that is not the end, and with which nothing valid continues
 pub wrong_at : (version : Version) (line behind : List ℕ) (taken : Taken) → IsRightSoFar version taken → IsOneLine line → (line ≡ codes "end" → taken.awaits ≡ false → ⊥) → ((new : Taken) → IsRightSoFar version new → Adds version taken line new → ⊥)
     → IsWrongLine (flat_map ended (open_lines version taken) ++ (line ++ 10 ∷ behind)) (length (open_lines version taken) + 1)
 wrong_at version line behind taken right plain not_end none = record {
@@ -102,7 +102,7 @@ wrong_line version text rest line behind taken lines so_far is plain not_end non
     (subst (λ t. IsWrongLine t (length (open_lines version taken) + 1)) (sym (so_far.parts ∙ ap (λ r. flat_map ended (open_lines version taken) ++ r) is))
     (wrong_at version line behind taken so_far.right plain not_end none))
 
--- no whole line stands there
+-- no whole line comes next
 pub cut_line : (version : Version) (text rest : List ℕ) (taken : Taken) (lines : ℕ) → IsReadSoFar version text taken lines rest → IsOneLine rest → IsWrongLine text (lines + 1)
 cut_line version text rest taken lines so_far plain = record {
   before = open_lines version taken;
@@ -126,7 +126,7 @@ some_bytes line more none =
     let first = length_behind line 10 in
     absurd (omega (arith, long, parts, first))
 
--- bytes stand behind the end
+-- bytes follow the end
 wrong_behind : (version : Version) (states : States) (behind : List ℕ) → IsRightSoFar version (all_of states) → 0 < length behind → Parts behind → HasWrongNext (state_text version states) behind ⊎ IsCut (state_text version states) behind
 wrong_behind version states behind right some (Plain plain) = inr (record { is_line = plain; more = λ s is none. absurd (let long : length behind ≡ 0 = ap (λ (l : List ℕ). length l) none in omega (arith, long, some)) })
 wrong_behind version states behind right some (Lined line more plain parts) = inl (record {
@@ -206,7 +206,7 @@ stops_of : (front rest : List ℕ) → HasWrongNext front rest ⊎ IsCut front r
 stops_of front rest (inl refused) = Refused refused.line refused.behind refused.is_line refused.parts refused.begins
 stops_of front rest (inr cut) = Cut cut.is_line
 
--- a text has one first wrong line at most
+-- a text has at most one first wrong line
 pub one_wrong_line : OneWrongLine
 one_wrong_line text m n one two =
     let same = one_stop BeginsStateText begins_less one.before two.before one.rest two.rest one.are_lines two.are_lines (sym one.parts ∙ two.parts) one.begins two.begins
@@ -229,7 +229,7 @@ none_at version states text before rest is lines parts (inr cut) =
 pub none_wrong : NoneInStateText
 none_wrong states text n is wrong = (let here = in_version states text is in none_at here.version states text wrong.before wrong.rest here.is wrong.are_lines wrong.parts wrong.wrong)
 
--- what is a state text is read, but for want of memory
+-- a state text is read, unless memory runs out
 pub reads_only : (text : List ℕ) (result : Result States StateFault) → IfOk result (λ s. IsStateText s text) → IfErr result (TellsLine text) → (states : States) → IsStateText states text → IfOk result (λ found. found ≡ states) × IfErr result (λ fault. fault ≡ Memory)
 reads_only text (Ok found) spelled told states is = (one_value found states text spelled is, tt)
 reads_only text (Err (Line n)) spelled told states is = absurd (none_wrong states text n is told)

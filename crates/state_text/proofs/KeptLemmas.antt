@@ -101,7 +101,7 @@ view_right tenant view orderly to_others named names = record {
   offers = each_made pair_total pair_exact (IsOffer tenant) offer_kept view.made (offer_right tenant view orderly to_others names);
 }
 
--- what is kept of an orderly world, whose objects stand under names
+-- what is kept of an orderly world whose objects are under valid names
 pub states_right : (world : World) → IsOrderlyWorld world → ((tenant : List ℕ) (view : View) → get world tenant ≡ Some view → AllByRecursion IsName (keys view.objects)) → IsStates (states_of world)
 states_right world orderly names = record {
   few = (let count = len-entries world in let long = length-map (entries world) state_kept in let few = orderly.few in omega (arith, count, long, few));

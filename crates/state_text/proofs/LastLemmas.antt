@@ -85,7 +85,7 @@ less_told old new name target more told = record {
   targets = each_front IsName (values old.references) target (subst (AllByRecursion IsName) (ap (map (λ e. e.1)) more.pushed ∙ map_behind (λ e. e.1) (entries old.references) (name, target)) told.targets);
 }
 
--- a repository with one reference more
+-- a repository with one more reference
 pub more_told : (old new : git.Repository) (name target : List ℕ) → HasReferenceMore old name target new → AreSound new.references → IsName target → MayBeTold old → MayBeTold new
 more_told old new name target more sound named told =
     record { branch = subst IsBranch (sym more.head) told.branch; references = sound; targets = targets_more old.references new.references name target more.pushed told.targets named }

@@ -27,11 +27,11 @@ but_behind [] line = refl
 but_behind (x ∷ []) line = refl
 but_behind (x ∷ y ∷ lines) line = ap (λ ls. x ∷ ls) (but_behind (y ∷ lines) line)
 
--- where no HEAD is awaited, the lines are those of the states
+-- if no HEAD is awaited, the lines are those of the states
 pub open_told : (version : Version) (taken : Taken) → taken.awaits ≡ false → open_lines version taken ≡ told_lines version taken.states
 open_told version taken is = ap (λ b. cond b (but_last (told_lines version taken.states)) (told_lines version taken.states)) is
 
--- and else those but the last
+-- otherwise they are those but the last
 pub open_awaited : (version : Version) (taken : Taken) (lines : List (List ℕ)) (line : List ℕ) → taken.awaits ≡ true → told_lines version taken.states ≡ lines ++ line ∷ [] → open_lines version taken ≡ lines
 open_awaited version taken lines line is told =
     ap (λ b. cond b (but_last (told_lines version taken.states)) (told_lines version taken.states)) is ∙ ap but_last told ∙ but_behind lines line
@@ -40,7 +40,7 @@ pub told_behind : (version : Version) (before : States) (tenant : TenantState) �
 told_behind version before tenant =
     ap (λ ls. version_line version ∷ ls) (flat_map-append (tenant_lines version) before (tenant ∷ []) ∙ ap (λ ls. flat_map (tenant_lines version) before ++ ls) (append-nil (tenant_lines version tenant)))
 
--- lines more of the last tenant are the last lines
+-- lines added to the last tenant are the last lines
 pub lines_more : (version : Version) (before : States) (old new : TenantState) (lines : List (List ℕ)) → tenant_lines version new ≡ tenant_lines version old ++ lines → told_lines version (before ++ new ∷ []) ≡ told_lines version (before ++ old ∷ []) ++ lines
 lines_more version before old new lines is =
     told_behind version before new ∙ ap (λ ls. told_lines version before ++ ls) is ∙ sym (append_assoc (told_lines version before) (tenant_lines version old) lines) ∙ ap (λ ls. ls ++ lines) (sym (told_behind version before old))
@@ -48,7 +48,7 @@ lines_more version before old new lines is =
 pub no_entries : entries (finite.empty {K = List ℕ} {X = List ℕ} {R = name_cmp}) ≡ []
 no_entries = nothing_in _ (let none = finite.len-entries (finite.empty {X = List ℕ} {R = name_cmp}) in let zero_is = finite.len-empty name_cmp (List ℕ) in omega (arith, none, zero_is))
 
--- while nothing stands behind repositories, what comes last of them comes last of all
+-- if nothing follows the repositories, their last lines are the tenant's last lines
 own_more : (version : Version) (tenant : List ℕ) (a b lines : List (List ℕ)) (seen : List (List ℕ)) (offers : List value.Offer) → seen ≡ [] → offers ≡ [] → b ≡ a ++ lines
     → b ++ (map seen_line seen ++ flat_map (offer_lines version tenant) offers) ≡ (a ++ (map seen_line seen ++ flat_map (offer_lines version tenant) offers)) ++ lines
 own_more version tenant a b lines seen offers none none_too is =
@@ -61,7 +61,7 @@ last_lines f front last = flat_map-append f front (last ∷ []) ∙ ap (λ ls. f
 three : (a b c d : List (List ℕ)) → a ++ (b ++ (c ++ d)) ≡ (a ++ (b ++ c)) ++ d
 three a b c d = sym (append_assoc a (b ++ c) d ∙ ap (λ l. a ++ l) (append_assoc b c d))
 
--- the lines of what stands last are the last ones
+-- the lines of the last item are the last lines
 pub at_lines : (version : Version) (tenant : TenantState) (place : Place) (repository : git.Repository) → IsLast tenant place
     → tenant_lines version (with_at tenant place repository) ≡ tenant_lines version tenant ++ first_line place ∷ inner_lines version tenant.name (place_name place) repository
 at_lines version tenant (Own name) repository last =
@@ -78,11 +78,11 @@ at_lines version tenant (Offered receiver name) repository last =
     (ap (λ ls. repositories ++ (seen ++ ls)) (last_lines (offer_lines version tenant.name) tenant.offers offer)
     ∙ three repositories seen (flat_map (offer_lines version tenant.name) tenant.offers) (offer_lines version tenant.name offer))
 
--- of a new repository the HEAD alone is told, if any
+-- a new repository has only the line of its HEAD, if any
 pub new_lines : (version : Version) (tenant name head : List ℕ) → inner_lines version tenant name (record { head = head; references = finite.empty }) ≡ head_lines version tenant name head
 new_lines version tenant name head = ap (λ es. head_lines version tenant name head ++ map (reference_line tenant name) es) no_entries ∙ append-nil (head_lines version tenant name head)
 
--- the lines once a HEAD was told
+-- the lines after a HEAD was given
 pub headed_lines : (version : Version) (before : States) (tenant : TenantState) (place : Place) (head : List ℕ) → awaits_head version ≡ true → IsLast tenant place
     → told_lines version (before ++ with_at tenant place (record { head = head; references = finite.empty }) ∷ []) ≡ (told_lines version (before ++ tenant ∷ []) ++ first_line place ∷ []) ++ line_of_head tenant.name (place_name place) head ∷ []
 headed_lines One before tenant place head is last = absurd (cc)
@@ -92,7 +92,7 @@ headed_lines Two before tenant place head is last =
     ∙ ap (λ ls. told_lines Two (before ++ tenant ∷ []) ++ first_line place ∷ ls) (new_lines Two tenant.name (place_name place) head)
     ∙ sym (append_assoc (told_lines Two (before ++ tenant ∷ [])) (first_line place ∷ []) (line_of_head tenant.name (place_name place) head ∷ []))
 
--- the lines where something has just begun
+-- the lines after something has just begun
 pub begun_lines : (version : Version) (before : States) (tenant : TenantState) (place : Place) (taken : Taken) → IsLast tenant place → taken.awaits ≡ awaits_head version → taken.states ≡ before ++ with_at tenant place new_repository ∷ []
     → open_lines version taken ≡ told_lines version (before ++ tenant ∷ []) ++ first_line place ∷ []
 begun_lines One before tenant place taken last awaits is =
@@ -103,7 +103,7 @@ begun_lines Two before tenant place taken last awaits is =
     open_awaited Two taken (told_lines Two (before ++ tenant ∷ []) ++ first_line place ∷ []) (line_of_head tenant.name (place_name place) main_branch) awaits
     (ap (told_lines Two) is ∙ headed_lines Two before tenant place main_branch refl last)
 
--- a repository's lines with a reference more
+-- a repository's lines with one more reference
 reference_more : (version : Version) (tenant name : List ℕ) (old new : git.Repository) (reference target : List ℕ) → HasReferenceMore old reference target new
     → inner_lines version tenant name new ≡ inner_lines version tenant name old ++ reference_line tenant name (reference, target) ∷ []
 reference_more version tenant name old new reference target more =
@@ -128,7 +128,7 @@ seen_more version tenant name none =
     ∙ ap (λ ls. (tenant_line tenant.name tenant.limit ∷ (front ++ ls)) ++ seen_line name ∷ []) (sym (append-nil (map seen_line tenant.seen)))
     ∙ ap (λ o. lines tenant.seen o ++ seen_line name ∷ []) (sym none)
 
--- where the last line but one is no HEAD, it makes no difference whether one is awaited
+-- if no HEAD is awaited before or after, a line added to the last tenant is the last line
 plain_more : (version : Version) (old new : Taken) (before : States) (tenant next : TenantState) (line : List ℕ) → old.awaits ≡ false → new.awaits ≡ false → old.states ≡ before ++ tenant ∷ [] → new.states ≡ before ++ next ∷ []
     → tenant_lines version next ≡ tenant_lines version tenant ++ line ∷ [] → open_lines version new ≡ open_lines version old ++ line ∷ []
 plain_more version old new before tenant next line was is old_is new_is lines =
@@ -139,7 +139,7 @@ place_line : (version : Version) (old new : Taken) (place : Place) → old.await
 place_line version old new place was is adds =
     begun_lines version adds.before adds.tenant place new adds.last is adds.added ∙ ap (λ ls. ls ++ first_line place ∷ []) (ap (told_lines version) (sym adds.was) ∙ sym (open_told version old was))
 
--- a line that was taken stands behind the others
+-- a line that was taken comes after the others
 pub adds_line : (version : Version) (old new : Taken) (line : List ℕ) → Adds version old line new → open_lines version new ≡ open_lines version old ++ line ∷ []
 adds_line version old new line (Head told goes says) =
     let adds = says.adds in
@@ -159,7 +159,7 @@ adds_line version old new line (Seen rest is goes adds) =
 adds_line version old new line (Offer rest is goes adds) =
     place_line version old new (Offered adds.receiver adds.name) goes.was (goes.is ∙ sym adds.told) adds.begins ∙ ap (λ l. open_lines version old ++ l ∷ []) (sym (is ∙ ap (λ r. codes "offer " ++ r) adds.spelled))
 
--- the text once a line was taken
+-- the text after a line was taken
 pub text_more : (version : Version) (text rest line behind : List ℕ) (old new : Taken) → text ≡ flat_map ended (open_lines version old) ++ rest → rest ≡ line ++ 10 ∷ behind → Adds version old line new → text ≡ flat_map ended (open_lines version new) ++ behind
 text_more version text rest line behind old new parts is adds =
     let front = flat_map ended (open_lines version old) in
@@ -171,7 +171,7 @@ pub text_ends : (version : Version) (states : States) → flat_map ended (told_l
 unfolding state_text
 text_ends version states = sym (flat_map-append ended (told_lines version states) (codes "end" ∷ []))
 
--- a line more was read
+-- one more line was read
 pub read_more : (version : Version) (text rest line behind : List ℕ) (old new : Taken) (lines : ℕ) → IsReadSoFar version text old lines rest → rest ≡ line ++ 10 ∷ behind → Adds version old line new → IsStates new.states
     → IsReadSoFar version text new (lines + 1) behind
 read_more version text rest line behind old new lines so_far is adds right =

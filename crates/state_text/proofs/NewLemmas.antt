@@ -13,7 +13,7 @@ use Rattle.state_text.proofs.LineLemmas.{no_entries}
 pub new_told : MayBeTold new_repository
 new_told = record { branch = main_right; references = sound_empty; targets = subst (AllByRecursion IsName) (sym (ap (map (λ e. e.1)) no_entries)) tt }
 
--- where no branch was read, none stands there
+-- if no branch was read, the text has none
 pub none_read : (result : Option (List ℕ)) (rest prefix short : List ℕ) → rest ≡ prefix ++ short → result ≡ branch_in short → IfNone result ((head : List ℕ) → IsBranch head → rest ≢ prefix ++ head)
 none_read (Some found) rest prefix short is read = tt
 none_read None rest prefix short is read = λ head right is_too.

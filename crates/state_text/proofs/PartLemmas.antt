@@ -11,18 +11,18 @@ use Rattle.git_name.proofs.ReadingLemmas.{name_in-encode_lower, number_in-decima
 use Rattle.git_name.proofs.TextLemmas.{split_once-append}
 use Rattle.fork_request.specs.Names.{IsPlainName, stands_in_a_name}
 
--- what stands before the first such byte, and what after it
+-- a text splits in only one way at the first such byte
 pub split_unique : (byte : ℕ) (a b c d : List ℕ) → All (λ x. x ≢ byte) a → All (λ x. x ≢ byte) c → a ++ byte ∷ b ≡ c ++ byte ∷ d → (a ≡ c) × (b ≡ d)
 split_unique byte a b c d p q e =
     let split = sym (split_once-append byte a b p) ∙ (ap (split_once byte) e ∙ split_once-append byte c d q) in
     (ap (λ (o : Option (List ℕ × List ℕ)). unwrap_or (option_map (λ s. s.0) o) []) split, ap (λ (o : Option (List ℕ × List ℕ)). unwrap_or (option_map (λ s. s.1) o) []) split)
 
--- a plain name holds no other byte than those of names
+-- a plain name has only bytes of names
 pub plain_without : (most byte : ℕ) (name : List ℕ) → stands_in_a_name byte ≡ false → IsPlainName most name → All (λ x. x ≢ byte) name
 plain_without most byte name bare named =
     All-weaker (λ x. stands_in_a_name x ≡ true) (λ x. x ≢ byte) (λ x stands is. let both : true ≡ false = sym stands ∙ (ap stands_in_a_name is ∙ bare) in absurd (cc both)) name named.bytes
 
--- a word, SP and the rest, told in two ways
+-- two splits into a word, SP and the rest are the same
 pub same_parts : (rest word behind name more : List ℕ) → rest ≡ word ++ 32 ∷ behind → All (λ x. x ≢ 32) word → All (λ x. x ≢ 32) name → rest ≡ name ++ codes " " ++ more → (word ≡ name) × (behind ≡ more)
 same_parts rest word behind name more is plain other spelled =
     split_unique 32 word behind name more plain other (sym is ∙ spelled ∙ append_assoc name (codes " ") more)

@@ -19,7 +19,7 @@ pub same_name_at : (tenant : TenantState) (place : Place) (repository : git.Repo
 same_name_at tenant (Own name) repository = refl
 same_name_at tenant (Offered receiver name) repository = refl
 
--- the tenant without it
+-- the tenant without its last item
 pub place_less : (tenant : TenantState) (place : Place) (repository : git.Repository) → IsTenantState (with_at tenant place repository) → IsTenantState tenant
 place_less tenant (Own name) repository right = record {
   named = right.named;
@@ -46,7 +46,7 @@ place_less tenant (Offered receiver name) repository right = record {
   offers = each_front (IsOffer tenant.name) tenant.offers (offer_at receiver name repository) right.offers;
 }
 
--- what is known of it
+-- what is known of the last item
 pub told_at : (tenant : TenantState) (place : Place) (repository : git.Repository) → IsTenantState (with_at tenant place repository) → MayBeTold repository
 told_at tenant (Own name) repository right = (each_last IsNamedRepository tenant.repositories (name, repository) right.repositories).told
 told_at tenant (Offered receiver name) repository right = (each_last (IsOffer tenant.name) tenant.offers (offer_at receiver name repository) right.offers).told
@@ -55,11 +55,11 @@ pub named_at : (tenant : TenantState) (place : Place) (repository : git.Reposito
 named_at tenant (Own name) repository right = (each_last IsNamedRepository tenant.repositories (name, repository) right.repositories).named
 named_at tenant (Offered receiver name) repository right = (each_last (IsOffer tenant.name) tenant.offers (offer_at receiver name repository) right.offers).named
 
--- what is known of an offer that stands last
+-- what is known of an offer that comes last
 pub receiver_at : (tenant : TenantState) (receiver name : List ℕ) (repository : git.Repository) → IsTenantState (with_at tenant (Offered receiver name) repository) → IsOffer tenant.name (offer_at receiver name repository)
 receiver_at tenant receiver name repository right = each_last (IsOffer tenant.name) tenant.offers (offer_at receiver name repository) right.offers
 
--- the tenant with another one in its place
+-- the tenant with another repository in that place
 pub place_changed : (tenant : TenantState) (place : Place) (old new : git.Repository) → IsTenantState (with_at tenant place old) → MayBeTold new → IsTenantState (with_at tenant place new)
 place_changed tenant (Own name) old new right told =
     let was : IsNamedRepository (name, old) = each_last IsNamedRepository tenant.repositories (name, old) right.repositories in
@@ -73,7 +73,7 @@ place_changed tenant (Offered receiver name) old new right told =
     (record { receiver_named = was.receiver_named; to_another = was.to_another; named = was.named; told = told })
     (before_last (map words_of_offer tenant.offers) (offer_words receiver name) (subst Ascend (map_behind words_of_offer tenant.offers (offer_at receiver name old)) right.offers_ordered)) room
 
--- states whose last tenant has another one in its place
+-- states whose last tenant has another repository in that place
 pub states_changed : (before : States) (tenant : TenantState) (place : Place) (old new : git.Repository) → IsStates (before ++ with_at tenant place old ∷ []) → IsTenantState (with_at tenant place old) → MayBeTold new
     → IsStates (before ++ with_at tenant place new ∷ [])
 states_changed before tenant place old new right tenant_right told =
@@ -82,7 +82,7 @@ states_changed before tenant place old new right tenant_right told =
 pub never_nothing : {A : Type 0} (xs : List A) (x : A) → xs ++ x ∷ [] ≡ [] → ⊥
 never_nothing xs x is = (let long : length (xs ++ x ∷ []) ≡ 0 = ap (λ l. length l) is in let more = length_behind xs x in absurd (omega (arith, long, more)))
 
--- it stands in one place
+-- the two tenants, places and repositories are the same
 pub record IsSamePlace (tenant other : TenantState) (place place_too : Place) (repository repository_too : git.Repository) : Type 0 where
   pub tenants : tenant ≡ other
   pub places : place ≡ place_too

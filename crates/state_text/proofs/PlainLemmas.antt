@@ -43,7 +43,7 @@ not_first false x o is = (refl, is)
 later_rules : List Rule
 later_rules = Pattern ∷ Slashes ∷ LastDot ∷ AtBrace ∷ LoneAt ∷ Backslash ∷ OutsideRefs ∷ TooLong ∷ []
 
--- a reference's name holds no LF
+-- a reference's name has no LF
 pub reference_plain : (name : List ℕ) → IsRefName name → IsOneLine name
 unfolding least_broken_rule later_rules
 reference_plain name right =
@@ -74,7 +74,7 @@ nothing_plain = All-from_recursion (λ b. b ≢ 10) [] tt
 namespace_plain : (most : ℕ) (name : List ℕ) → IsPlainName most name → IsOneLine (namespace name)
 namespace_plain most name named = both_plain (codes "refs/namespaces/" ++ name) (codes "/") (both_plain (codes "refs/namespaces/") name prefix_plain (name_plain most name named)) slash_plain
 
--- what stands before the names of a repository's references
+-- the prefix of the names of a repository's references
 prefix_at : (most most_too : ℕ) (tenant repository : List ℕ) → IsPlainName most tenant → IsPlainName most_too repository → IsOneLine (expanded (tenant ∷ repository ∷ []))
 prefix_at most most_too tenant repository tenant_named named =
     both_plain (namespace tenant) (namespace repository ++ []) (namespace_plain most tenant tenant_named) (both_plain (namespace repository) [] (namespace_plain most_too repository named) nothing_plain)
@@ -127,7 +127,7 @@ offer_plain version old rest new adds right =
     All-same (λ b. b ≢ 10) _ _ adds.spelled
     (both_plain (adds.receiver ++ codes " ") adds.name (both_plain adds.receiver (codes " ") (name_plain _ adds.receiver receiver.receiver_named) space_plain) (name_plain _ adds.name receiver.named))
 
--- a line that was taken is one
+-- a line that was taken has no LF
 pub adds_plain : (version : Version) (old new : Taken) (line : List ℕ) → Adds version old line new → IsStates new.states → IsOneLine line
 adds_plain version old new line (Head told goes says) right = front_plain (codes "head ") says.rest line says.is (All-from_recursion (λ b. b ≢ 10) (codes "head ") (search (rules, arith))) (head_plain old.states says.rest new.states says.adds right)
 adds_plain version old new line (Tenant rest is goes adds) right = front_plain (codes "tenant ") rest line is (All-from_recursion (λ b. b ≢ 10) (codes "tenant ") (search (rules, arith))) (tenant_plain old.states rest new.states adds right)

@@ -1,4 +1,4 @@
--- A line says one thing.
+-- A line says only one thing.
 use Rattle.std.proofs.Common.{◌≡◌, ℕ, ◌+◌, List, [], ◌∷◌, ◌++◌, codes, decimal, refl, sym, ap, subst, ◌∙◌, slice_index, append_assoc, arith}
 use Rattle.std.specs.FinMap as finite
 use Rattle.std.specs.FinMap.{entries}
@@ -21,7 +21,7 @@ use Rattle.state_text.proofs.PartLemmas.{decimal_unique, digits_unique, digits_w
 use Rattle.state_text.proofs.PlaceLemmas.{offer_at, receiver_at, same_place, told_at}
 use Rattle.state_text.proofs.StateLemmas.{last_right}
 
--- the first byte and the third tell what a line says
+-- the first byte and the third show what a line says
 abbrev pub mark : List ℕ → ℕ
 mark line = slice_index line 0 + slice_index line 0 + slice_index line 2
 
@@ -58,7 +58,7 @@ head_same old q r rest a b =
     let heads : a.head ≡ b.head = append_cancel_left (prefix b.tenant b.place) a.head b.head ((λ i. prefix (sym same.tenants i) (sym same.places i) ++ a.head) ∙ sym a.spelled ∙ b.spelled) in
     a.added ∙ (λ i. parts.0 i ++ with_at (same.tenants i) (same.places i) (record { head = heads i; references = finite.empty }) ∷ []) ∙ sym b.added
 
--- one reference more makes one repository
+-- adding one reference gives only one repository
 next_same : (old other new new_too : git.Repository) (name name_too target target_too : List ℕ) → HasReferenceMore old name target new → HasReferenceMore other name_too target_too new_too → old ≡ other → name ≡ name_too → target ≡ target_too → new ≡ new_too
 next_same old other new new_too name name_too target target_too a b same names targets =
     let references : new.references ≡ new_too.references = finite.same_entries_map new.references new_too.references (a.pushed ∙ (λ i. entries (same i).references ++ (names i, targets i) ∷ []) ∙ sym b.pushed) in

@@ -31,7 +31,7 @@ fresh_right name limit named within = record {
   offers = tt;
 }
 
--- a tenant with a repository more
+-- a tenant with one more repository
 pub repository_more : (tenant : TenantState) (name : List ℕ) (repository : git.Repository) → IsTenantState tenant → IsNamedRepository (name, repository) → AreBefore (map (λ r. r.0) tenant.repositories) name
     → length tenant.repositories < MAX_REPOSITORIES → IsTenantState (with_repository tenant name repository)
 repository_more tenant name repository right new before room = record {
@@ -47,7 +47,7 @@ repository_more tenant name repository right new before room = record {
   offers = right.offers;
 }
 
--- a tenant that sees an object more
+-- a tenant that sees one more object
 pub seen_more : (tenant : TenantState) (name : List ℕ) → IsTenantState tenant → IsName name → AreBefore tenant.seen name → IsTenantState (with_seen tenant name)
 seen_more tenant name right named before = record {
   named = right.named;
@@ -62,7 +62,7 @@ seen_more tenant name right named before = record {
   offers = right.offers;
 }
 
--- a tenant with an offer more
+-- a tenant with one more offer
 pub offer_more : (tenant : TenantState) (offer : Offer) → IsTenantState tenant → IsOffer tenant.name offer → AreBefore (map words_of_offer tenant.offers) (words_of_offer offer) → length tenant.offers < MAX_OFFERS → IsTenantState (with_offer tenant offer)
 offer_more tenant offer right new before room = record {
   named = right.named;
@@ -77,7 +77,7 @@ offer_more tenant offer right new before room = record {
   offers = each_behind (IsOffer tenant.name) tenant.offers offer right.offers new;
 }
 
--- states with a tenant more
+-- states with one more tenant
 pub tenant_more : (states : States) (tenant : TenantState) → IsStates states → IsTenantState tenant → AreBefore (map (λ t. t.name) states) tenant.name → length states < MAX_TENANTS → IsStates (states ++ tenant ∷ [])
 tenant_more states tenant right new before room = record {
   few = (let long = length_behind states tenant in omega (arith, long));
@@ -89,7 +89,7 @@ tenant_more states tenant right new before room = record {
 pub last_right : (states : States) (tenant : TenantState) → IsStates (states ++ tenant ∷ []) → IsTenantState tenant
 last_right states tenant right = each_last IsTenantState states tenant right.each
 
--- the others stand before it
+-- the others come before it
 pub tenants_before : (states : States) (tenant : TenantState) → IsStates (states ++ tenant ∷ []) → AreBefore (map (λ t. t.name) states) tenant.name
 tenants_before states tenant right = before_last (map (λ t. t.name) states) tenant.name (subst Ascend (map_behind (λ t. t.name) states tenant) right.ordered)
 
@@ -101,7 +101,7 @@ tenant_less states tenant right = record {
   each = each_front IsTenantState states tenant right.each;
 }
 
--- states whose last one changes under its name
+-- states whose last tenant changes and keeps its name
 pub tenant_changed : (states : States) (old new : TenantState) → IsStates (states ++ old ∷ []) → IsTenantState new → old.name ≡ new.name → IsStates (states ++ new ∷ [])
 tenant_changed states old new right is same =
     let room : length states < MAX_TENANTS = (let long = length_behind states old in let few = right.few in omega (arith, long, few)) in

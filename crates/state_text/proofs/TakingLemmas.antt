@@ -27,7 +27,7 @@ module _ (states before : States) (tenant : TenantState) (place : Place) (reposi
       let next : MayBeTold (record { head = head; references = repository.references }) = record { branch = branch; references = told.references; targets = told.targets } in
       states_changed before tenant place repository new opened opened_right (subst MayBeTold (sym is) next)
 
-  -- with a reference more
+  -- with one more reference
   pub referenced_right : (new : git.Repository) (name target : List ℕ) → HasReferenceMore repository name target new → AreSound new.references → IsName target → IsStates (before ++ with_at tenant place new ∷ [])
   referenced_right new name target more sound named = states_changed before tenant place repository new opened opened_right (more_told repository new name target more sound named (told_at tenant place repository opened_right))
 

@@ -1,4 +1,4 @@
--- What a version expresses of states with one thing more, or less.
+-- What a version can express of states, with one item more or less.
 use Rattle.std.proofs.Common.{◌≡◌, ℕ, true, false, List, [], ◌∷◌, ◌++◌, refl, sym, subst, ◌∙◌}
 use Rattle.std.specs.Prelude.{⊤}
 use Rattle.git_reftx.specs.Repository as git
@@ -16,7 +16,7 @@ use Rattle.state_text.specs.Text.{FitsVersionOne, VersionTells}
 use Rattle.state_text.proofs.BehindLemmas.{each_behind, each_front, each_last}
 use Rattle.state_text.proofs.PlaceLemmas.{never_nothing}
 
--- what a version can tell of one tenant
+-- what a version can express of one tenant
 abbrev pub TellsOne : Version → TenantState → Type 0
 TellsOne One tenant = FitsVersionOne tenant
 TellsOne Two tenant = ⊤
@@ -45,13 +45,13 @@ pub tells_seen : (version : Version) (tenant : TenantState) (name : List ℕ) �
 tells_seen One tenant name tells = record { heads = tells.heads; no_offers = tells.no_offers }
 tells_seen Two tenant name tells = tt
 
--- the tenant is told of without what stands last, too
+-- a tenant can also be expressed without its last item
 pub tells_before : (version : Version) (tenant : TenantState) (place : Place) (repository : git.Repository) → TellsOne version (with_at tenant place repository) → TellsOne version tenant
 tells_before One tenant (Own name) repository tells = record { heads = each_front (λ r. r.1.head ≡ main_branch) tenant.repositories (name, repository) tells.heads; no_offers = tells.no_offers }
 tells_before One tenant (Offered receiver name) repository tells = absurd (never_nothing tenant.offers _ tells.no_offers)
 tells_before Two tenant place repository tells = tt
 
--- and with another one in its place, of the same HEAD
+-- and with another one in its place that has the same HEAD
 pub tells_changed : (version : Version) (tenant : TenantState) (place : Place) (old new : git.Repository) → new.head ≡ old.head → TellsOne version (with_at tenant place old) → TellsOne version (with_at tenant place new)
 tells_changed One tenant (Own name) old new same tells = record {
   heads = each_behind (λ r. r.1.head ≡ main_branch) tenant.repositories (name, new) (each_front (λ r. r.1.head ≡ main_branch) tenant.repositories (name, old) tells.heads)
@@ -61,22 +61,22 @@ tells_changed One tenant (Own name) old new same tells = record {
 tells_changed One tenant (Offered receiver name) old new same tells = absurd (never_nothing tenant.offers _ tells.no_offers)
 tells_changed Two tenant place old new same tells = tt
 
--- a repository has HEAD main in the first version
+-- in version 1 each repository has HEAD main
 pub tells_main : (tenant : TenantState) (place : Place) (repository : git.Repository) → FitsVersionOne (with_at tenant place repository) → repository.head ≡ main_branch
 tells_main tenant (Own name) repository tells = each_last (λ r. r.1.head ≡ main_branch) tenant.repositories (name, repository) tells.heads
 tells_main tenant (Offered receiver name) repository tells = absurd (never_nothing tenant.offers _ tells.no_offers)
 
--- a new repository can be told of in each version
+-- each version can express a new repository
 pub tells_new : (version : Version) (tenant : TenantState) (name : List ℕ) → TellsOne version tenant → TellsOne version (with_at tenant (Own name) new_repository)
 tells_new One tenant name tells = record { heads = each_behind (λ r. r.1.head ≡ main_branch) tenant.repositories (name, new_repository) tells.heads refl; no_offers = tells.no_offers }
 tells_new Two tenant name tells = tt
 
--- where HEAD is told, all is
+-- a version that has HEADs can express everything
 pub tells_all : (version : Version) (states : States) → awaits_head version ≡ true → VersionTells version states
 tells_all One states is = absurd (cc)
 tells_all Two states is = tt
 
--- what a version tells of the old tenant tells it of the new one
+-- the last tenant changes, and the version can still express it
 tells_last_changed : (version : Version) (before old new : States) (tenant next : TenantState) → old ≡ before ++ tenant ∷ [] → new ≡ before ++ next ∷ [] → (TellsOne version tenant → TellsOne version next) → VersionTells version old → VersionTells version new
 tells_last_changed version before old new tenant next was is goes tells =
     let here = subst (VersionTells version) was tells in
@@ -108,24 +108,24 @@ begun_more version old new line (Reference rest line_is goes adds) is = begun_no
 begun_more version old new line (Seen rest line_is goes adds) is = begun_not version old new goes is
 begun_more version old new line (Offer rest line_is goes adds) is = (adds.told, begun_at old.states new.states (Offered adds.receiver adds.name) adds.begins)
 
--- with a line more all is as it has to be
+-- after one more line, what was taken is still right
 pub taken_more : (version : Version) (old new : Taken) (line : List ℕ) → Adds version old line new → IsRightSoFar version old → IsStates new.states → IsRightSoFar version new
 taken_more version old new line adds was right = record { right = right; tells = tells_more version old new line adds was.tells; begun = begun_more version old new line adds }
 
--- states that are told of to their end
+-- states whose lines were all taken
 pub all_taken : (version : Version) (states : States) → IsStates states → VersionTells version states → IsRightSoFar version (record { states = states; awaits = false })
 all_taken version states right tells = record { right = right; tells = tells; begun = λ is. absurd (cc) }
 
--- no offer is told of in the first version
+-- version 1 can express no offer
 pub offered_plain : (tenant : TenantState) (receiver name : List ℕ) (repository : git.Repository) → FitsVersionOne (with_at tenant (Offered receiver name) repository) → ⊥
 offered_plain tenant receiver name repository plain = never_nothing tenant.offers _ plain.no_offers
 
--- a tenant is told of whatever it sees
+-- a tenant can be expressed whatever it sees
 pub unseen_told : (version : Version) (tenant : TenantState) (seen : List (List ℕ)) → TellsOne version tenant → TellsOne version (record { name = tenant.name; limit = tenant.limit; repositories = tenant.repositories; seen = seen; offers = tenant.offers })
 unseen_told One tenant seen tells = record { heads = tells.heads; no_offers = tells.no_offers }
 unseen_told Two tenant seen tells = tt
 
--- where no HEAD is told, it is main
+-- in a version without HEADs, each HEAD is main
 pub main_head : (version : Version) (tenant : TenantState) (place : Place) (repository : git.Repository) → awaits_head version ≡ false → TellsOne version (with_at tenant place repository) → repository.head ≡ main_branch
 main_head One tenant place repository is tells = tells_main tenant place repository tells
 main_head Two tenant place repository is tells = absurd (cc)

@@ -27,7 +27,7 @@ same_lines (a ∷ ls) (b ∷ bs) r s p q m n is =
     let others = same_lines ls bs r s p.1 q.1 m n parts.1 in
     ((λ i. parts.0 i ∷ others.0 i), others.1)
 
--- lines that begin with others and a line have them for their first ones
+-- lines whose bytes begin with other lines begin with these lines
 pub lines_behind : (ls bs : List (List ℕ)) (line more : List ℕ) → AllByRecursion IsOneLine ls → AllByRecursion IsOneLine bs → IsOneLine line → flat_map ended ls ≡ flat_map ended bs ++ (line ++ 10 ∷ more) → (others : List (List ℕ)) × (ls ≡ bs ++ line ∷ others)
 lines_behind [] [] line more p q m is = absurd (no_lf [] line more (All-nil (λ b. b ≢ 10)) m is)
 lines_behind [] (b ∷ bs) line more p q m is = absurd (no_lf [] b (flat_map ended bs ++ (line ++ 10 ∷ more)) (All-nil (λ x. x ≢ 10)) q.0 (is ∙ first_line b bs (line ++ 10 ∷ more)))
@@ -39,7 +39,7 @@ lines_behind (a ∷ ls) (b ∷ bs) line more p q m is =
     let others = lines_behind ls bs line more p.1 q.1 m parts.1 in
     (others.0, λ i. parts.0 i ∷ others.1 i)
 
--- a text goes no further: a line stands there with which it begins nothing, or no whole line
+-- a text goes no further: with the next line nothing begins, or there is no whole line
 pub data Stops (P : List ℕ → Type 0) (front rest : List ℕ) : Type 0 where
   Refused : (line more : List ℕ) → IsOneLine line → rest ≡ line ++ 10 ∷ more → (P (front ++ ended line) → ⊥) → Stops P front rest
   Cut : IsOneLine rest → Stops P front rest

@@ -1,4 +1,4 @@
--- A state text is of one version, which its first line gives.
+-- A state text has one version, which its first line gives.
 use Rattle.std.proofs.Common.{◌≡◌, ℕ, List, [], ◌∷◌, ◌++◌, inl, inr, codes, refl, sym, ap, subst, ◌∙◌, slice_index, arith}
 use Rattle.std.specs.List.{flat_map}
 use Rattle.std.proofs.lemmas.List.{append-nil}
@@ -43,13 +43,13 @@ unfolding state_text
 first_is version states line rest plain is =
     (split_unique 10 line rest (version_line version) _ plain (version_plain version) (sym is ∙ sym (append-nil (state_text version states)) ∙ first_line (version_line version) _ [])).0
 
--- a state text that begins with lines of a version is of that one
+-- a state text that begins with lines of a version has that version
 pub same_version : (v w : Version) (taken : Taken) (states : States) (rest : List ℕ) → IsRightSoFar v taken → state_text w states ≡ flat_map ended (open_lines v taken) ++ rest → w ≡ v
 same_version v w taken states rest right is =
     let first = has_first v taken right in
     same_line w v (sym (first_is w states (version_line v) (flat_map ended first.others ++ rest) (version_plain v) (is ∙ ap (λ ls. flat_map ended ls ++ rest) first.first ∙ first_line (version_line v) first.others rest)))
 
--- a text is of one value
+-- a text has one value
 pub one_value : (states others : States) (text : List ℕ) → IsStateText states text → IsStateText others text → states ≡ others
 one_value states others text is is_too =
     let one = in_version states text is in

@@ -20,7 +20,7 @@ take_next [] i x within is = absurd (omega (arith, within))
 take_next (y ∷ xs) zero x within is = ap (λ z. z ∷ []) (sym is)
 take_next (y ∷ xs) (suc i) x within is = ap (λ l. y ∷ l) (take_next xs i x (omega (arith, within)) is)
 
--- the lines of one more
+-- the lines of one more element
 pub row_put : {A : Type 0} (f : A → List (List ℕ)) (xs : List A) (x : A) (i : ℕ) (old before new : List ℕ) → i < length xs → x ≡ get_or xs i x → before ≡ old ++ flat_map ended (flat_map f (take i xs)) → new ≡ before ++ flat_map ended (f x)
     → new ≡ old ++ flat_map ended (flat_map f (take (i + 1) xs))
 row_put f xs x i old before new within is so_far put =
@@ -30,7 +30,7 @@ row_put f xs x i old before new within is so_far put =
     put ∙ ap (λ t. t ++ flat_map ended (f x)) so_far ∙ append_assoc old (flat_map ended (flat_map f (take i xs))) (flat_map ended (f x))
     ∙ ap (λ t. old ++ t) (sym (flat_map-append ended (flat_map f (take i xs)) (f x)) ∙ ap (flat_map ended) (sym more))
 
--- a line, and lines behind it
+-- a line, and lines after it
 pub line_put : (old line middle new : List ℕ) (lines : List (List ℕ)) → middle ≡ old ++ ended line → new ≡ middle ++ flat_map ended lines → new ≡ old ++ flat_map ended (line ∷ lines)
 line_put old line middle new lines first behind = behind ∙ ap (λ t. t ++ flat_map ended lines) first ∙ append_assoc old (ended line) (flat_map ended lines)
 

@@ -1,4 +1,4 @@
--- What cannot be appended makes a line with which no valid states continue.
+-- No valid states continue with the line of an item that cannot be appended.
 use Rattle.std.proofs.Common.{◌≡◌, ◌≢◌, ℕ, ◌+◌, ◌<◌, ◌≤◌, List, [], ◌∷◌, ◌++◌, codes, decimal, refl, sym, ap, subst, ◌∙◌, length, map, append_assoc, arith}
 use Rattle.std.specs.FinMap as finite
 use Rattle.hex.specs.Hex.{encode_lower}
@@ -33,7 +33,7 @@ use Rattle.state_text.proofs.PartLemmas.{digits_unique, digits_without, plain_wi
 use Rattle.state_text.proofs.PlaceLemmas.{IsSamePlace, offer_at, receiver_at, same_place, told_at}
 use Rattle.state_text.proofs.StateLemmas.{last_right, tenants_before}
 
--- the tenant of a line has one name
+-- a tenant's line gives one name
 named_so : (rest name : List ℕ) (limit : ℕ) (old new : States) → IsTenantName name → rest ≡ name ++ codes " " ++ decimal limit → IsStates new → (adds : AddsTenant old rest new) → name ≡ adds.name
 named_so rest name limit old new named is right adds =
     let other : IsTenantState (fresh adds.name adds.limit) = last_right old (fresh adds.name adds.limit) (subst IsStates adds.added right) in
@@ -74,7 +74,7 @@ seen_wrong old before tenant rest name OutOfOrder was named is told = λ new rig
 seen_wrong old before tenant rest name TooMany was named is told = λ new right adds. told
 seen_wrong old before tenant rest name Memory was named is told = tt
 
--- the offer of a line
+-- the offer that a line gives
 module _ (version : Version) (old before new : States) (tenant : TenantState) (rest receiver name : List ℕ) (was : old ≡ before ++ tenant ∷ []) (receiver_named : IsTenantName receiver) (is : rest ≡ offer_words receiver name) (right : IsStates new) (adds : AddsOffer version old rest new) where
   giver_same : adds.begins.tenant ≡ tenant
   giver_same = (same_behind adds.begins.before before adds.begins.tenant tenant (sym adds.begins.was ∙ was)).1
@@ -110,11 +110,11 @@ offer_wrong version old before tenant rest receiver name offering.OutOfOrder was
 offer_wrong version old before tenant rest receiver name offering.TooMany was named is told = λ new right adds. (let room = has_room version old before new tenant rest receiver name was named is right adds in absurd (omega (arith, room, told)))
 offer_wrong version old before tenant rest receiver name offering.Memory was named is told = tt
 
--- no repository has a reference more that is not put behind the others
+-- no repository has one more reference if that reference cannot be appended
 pub never_more : (old new : git.Repository) (name target : List ℕ) (error : PushRefError) → TellsPush old.references name error → error ≢ push.Memory → AreSound new.references → HasReferenceMore old name target new → ⊥
 never_more old new name target error told fault sound more = never_pushed old.references new.references name target error told fault sound more.pushed
 
--- what is known where a line says more of what stands last
+-- what is known if a line adds to the last item
 module _ (old before new : States) (tenant : TenantState) (place : Place) (repository : git.Repository) (rest prefix : List ℕ) (was : old ≡ before ++ with_at tenant place repository ∷ []) (last : IsLast tenant place)
     (prefix_is : prefix ≡ expanded (tenant.name ∷ place_name place ∷ [])) (right : IsStates new) where
   module _ (adds : AddsReference old rest new) where

@@ -19,7 +19,7 @@ pub record BeginsStateText (text : List ℕ) : Type 0 where
 abbrev pub IsOneLine : List ℕ → Type 0
 IsOneLine line = All (λ byte. byte ≢ 10) line
 
--- a complete line comes next, and with it the text begins no state text
+-- a complete line comes next, and no state text begins with the text up to its end
 pub record HasWrongNext (front rest : List ℕ) : Type 0 where
   pub line : List ℕ
   pub behind : List ℕ
@@ -27,12 +27,12 @@ pub record HasWrongNext (front rest : List ℕ) : Type 0 where
   pub parts : rest ≡ line ++ 10 ∷ behind
   pub begins : ¬ BeginsStateText (front ++ ended line)
 
--- no complete line comes next, and the text is not at its end
+-- no complete line comes next, and if the front is a state text, something follows it
 pub record IsCut (front rest : List ℕ) : Type 0 where
   pub is_line : IsOneLine rest
   pub more : (states : States) → IsStateText states front → rest ≢ []
 
--- with the lines before this one the text begins a state text, and here it goes wrong
+-- some state text begins with the lines before this one, and here the text goes wrong
 pub record IsWrongLine (text : List ℕ) (number : ℕ) : Type 0 where
   pub before : List (List ℕ)
   pub rest : List ℕ

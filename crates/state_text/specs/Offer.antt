@@ -1,4 +1,4 @@
--- An offer that a tenant has made (own): to whom, of which of its repositories, and that repository as it was then.
+-- An offer that a tenant has made (own): its receiver, the name of the giver's repository, and that repository as it was then.
 use Rattle.std.specs.Prelude.{ℕ, List, ◌++◌, codes, refl}
 use Rattle.std.specs.Coded.{Coded, code_by, coded×}
 use Rattle.git_name.specs.Text.{bytes_code}

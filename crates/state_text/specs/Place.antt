@@ -17,12 +17,12 @@ abbrev pub first_line : Place → List ℕ
 first_line (Own name) = repository_line name
 first_line (Offered receiver name) = offer_line receiver name
 
--- the tenant with this added after all that it has
+-- the tenant with this appended
 abbrev pub with_at : TenantState → Place → Repository → TenantState
 with_at tenant (Own name) repository = with_repository tenant name repository
 with_at tenant (Offered receiver name) repository = with_offer tenant (record { receiver = receiver; name = name; repository = repository })
 
--- no line of the tenant comes after it: repositories come before what is seen, and that before offers
+-- no line of the tenant comes after it: repositories come first, then what is seen, then offers
 abbrev pub IsLast : TenantState → Place → Type 0
 IsLast tenant (Own name) = (tenant.seen ≡ []) × (tenant.offers ≡ [])
 IsLast tenant (Offered receiver name) = ⊤

@@ -25,7 +25,7 @@ use Rattle.state_text.specs.Place.{IsLast, place_name, with_at}
 use Rattle.state_text.specs.States.{IsStates, States, TenantState}
 use Rattle.state_text.specs.Text.{VersionTells, tenant_lines, version_line}
 
--- what was read: states, of which the HEAD of the last item may still be awaited
+-- what was read: states, and whether the HEAD of the last item is still awaited
 pub record Taken : Type 0 where
   pub states : States
   pub awaits : Bool
@@ -115,7 +115,7 @@ pub record HasReferenceMore (old : git.Repository) (name target : List ℕ) (new
   pub head : new.head ≡ old.head
   pub pushed : entries new.references ≡ entries old.references ++ (name, target) ∷ []
 
--- the item that the lines before are in has one more reference
+-- the last item has one more reference
 pub record AddsReference (old : States) (rest : List ℕ) (new : States) : Type 0 where
   pub before : States
   pub tenant : TenantState
@@ -159,15 +159,15 @@ abbrev pub WhenWrong : LineFault → Type 0 → Type 0
 WhenWrong Wrong said = said
 WhenWrong Memory said = ⊤
 
--- no valid states are the old ones with this line
+-- no valid states are the old ones plus this line
 abbrev pub Refuses : (States → List ℕ → States → Type 0) → States → List ℕ → LineFault → Type 0
 Refuses Says old line fault = WhenWrong fault ((new : States) → IsStates new → Says old line new → ⊥)
 
--- nothing valid that was taken is the old with this line
+-- nothing valid is what was taken plus this line
 abbrev pub RefusesLine : Version → Taken → List ℕ → LineFault → Type 0
 RefusesLine version old line fault = WhenWrong fault ((new : Taken) → IsRightSoFar version new → Adds version old line new → ⊥)
 
--- what cannot be appended makes a wrong line
+-- an item that cannot be appended makes a wrong line, unless memory ran out
 abbrev pub fault_of : AddError → LineFault
 fault_of add.OutOfOrder = Wrong
 fault_of add.TooMany = Wrong
@@ -185,7 +185,7 @@ fault_of_offer offering.OutOfOrder = Wrong
 fault_of_offer offering.TooMany = Wrong
 fault_of_offer offering.Memory = Memory
 
--- what was read is this many lines, which are these, and the rest of the text is left
+-- this many lines were read, which are these, and the rest of the text is left
 pub record IsReadSoFar (version : Version) (text : List ℕ) (taken : Taken) (lines : ℕ) (rest : List ℕ) : Type 0 where
   pub parts : text ≡ flat_map ended (open_lines version taken) ++ rest
   pub count : lines ≡ length (open_lines version taken)

@@ -71,7 +71,7 @@ pub record FitsVersionOne (tenant : TenantState) : Type 0 where
   pub heads : AllByRecursion (λ repository. repository.1.head ≡ main_branch) tenant.repositories
   pub no_offers : tenant.offers ≡ []
 
--- what a version can express: the first one no other HEAD and no offers, the second one all
+-- what a version can express: version 1 no other HEAD and no offers, version 2 everything
 abbrev pub VersionTells : Version → States → Type 0
 VersionTells One states = AllByRecursion FitsVersionOne states
 VersionTells Two states = ⊤
@@ -86,11 +86,11 @@ pub record IsTextIn (version : Version) (states : States) (text : List ℕ) : Ty
 abbrev pub IsStateText1 : States → List ℕ → Type 0
 IsStateText1 = IsTextIn One
 
--- version 2, which is written
+-- version 2, which `write` gives
 abbrev pub IsStateText2 : States → List ℕ → Type 0
 IsStateText2 = IsTextIn Two
 
--- a state text is one of either
+-- a state text is one of either version
 abbrev pub IsStateText : States → List ℕ → Type 0
 IsStateText states text = IsStateText1 states text ⊎ IsStateText2 states text
 

@@ -3,9 +3,9 @@ use thiserror::Error;
 /// Why something was not appended.
 #[derive(Clone, Copy, Debug, PartialEq, Eq, Error)]
 pub enum AddError {
-    #[error("the name does not stand behind the others")]
+    #[error("the name does not sort after the others")]
     OutOfOrder,
-    #[error("there are as many as there may be")]
+    #[error("there are as many as allowed")]
     TooMany,
     #[error("no memory")]
     Memory,
@@ -16,9 +16,9 @@ pub enum AddError {
 pub enum OfferError {
     #[error("the receiver is the giver")]
     ToGiver,
-    #[error("the offer does not stand behind the others")]
+    #[error("the offer does not sort after the others")]
     OutOfOrder,
-    #[error("there are as many offers as there may be")]
+    #[error("there are as many offers as allowed")]
     TooMany,
     #[error("no memory")]
     Memory,
@@ -28,7 +28,7 @@ pub enum OfferError {
 #[derive(Clone, Copy, Debug, PartialEq, Eq, Error)]
 pub enum StateFault {
     /// The text is not a state text; this is its first wrong line, counted from 1.
-    #[error("line {0} is wrong")]
+    #[error("line {0} is malformed")]
     Line(u64),
     #[error("no memory")]
     Memory,

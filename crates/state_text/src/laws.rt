@@ -6,7 +6,7 @@ pub fn one_value()
     ensures { OneValue }
 {}
 
-/// A text goes wrong at no more than one line, and a state text at none.
+/// A text has at most one first wrong line, and a state text has none.
 pub fn one_wrong_line()
     ensures one { OneWrongLine }
     ensures none { NoneInStateText }

@@ -11,7 +11,7 @@ pub(crate) enum LineFault {
     Memory,
 }
 
-// What cannot be appended makes a wrong line.
+// An item that cannot be appended makes a wrong line, unless memory ran out.
 impl From<AddError> for LineFault {
     ghost from_gives = { λ error fault. fault ≡ fault_of error };
 
@@ -23,7 +23,7 @@ impl From<AddError> for LineFault {
     }
 }
 
-// So does a reference that cannot.
+// A reference that cannot be appended makes a wrong line, unless memory ran out.
 impl From<PushRefError> for LineFault {
     ghost from_gives = { λ error fault. fault ≡ fault_of_push error };
 
@@ -35,7 +35,7 @@ impl From<PushRefError> for LineFault {
     }
 }
 
-// So does an offer that cannot.
+// An offer that cannot be appended makes a wrong line, unless memory ran out.
 impl From<OfferError> for LineFault {
     ghost from_gives = { λ error fault. fault ≡ fault_of_offer error };
 

@@ -9,8 +9,8 @@ use git_reftx::Repository;
 use std::cmp::Ordering;
 use std::marker::Model;
 
-/// An offer that a tenant has made: to whom, of which of its repositories, and that repository as it
-/// was when the offer was made. The giver is the tenant whose state contains it.
+/// An offer that a tenant has made: its receiver, the name of the giver's repository, and that repository as it was
+/// when the offer was made. The giver is the tenant whose state contains it.
 #[derive(Drop)]
 pub struct Offer {
     receiver: TenantName,
@@ -29,7 +29,7 @@ impl Model for Offer {
 }
 
 impl Offer {
-    /// The offer to this tenant of this repository, under this name.
+    /// An offer of this repository, under this name, to this tenant.
     pub fn new(receiver: TenantName, name: RepositoryName, repository: Repository) -> Offer
         ensures { result ≡ record { receiver = receiver; name = name; repository = repository } }
     {
@@ -74,7 +74,7 @@ impl Offer {
         (self.receiver, self.name, self.repository)
     }
 
-    // What its repository has alike with another one is in memory once from now on.
+    // Keeps in memory only once what its repository has in common with another one.
     pub(crate) fn share_with(&mut self, other: &Repository)
         ensures { self.new ≡ self.old }
     {

@@ -27,7 +27,7 @@ pub(crate) fn behind<'a>(text: &'a [u8], front: &[u8]) -> Option<&'a [u8]>
     Some(&text[front.len()..])
 }
 
-// The tenant of a tenant's line, which has nothing yet.
+// The tenant that a tenant's line gives. It has nothing yet.
 pub(crate) fn tenant_of(alloc: Global, rest: &[u8]) -> Option<TenantState>
     ensures found { IfSome result (λ tenant. (tenant ≡ fresh tenant.name tenant.limit) × (rest.now ≡ tenant.name ++ codes " " ++ spelled tenant.limit)) }
     ensures none { IfNone result ((name : List ℕ) (limit : ℕ) → IsTenantName name → limit ≤ MAX_LIMIT → rest.now ≢ name ++ codes " " ++ spelled limit) }

@@ -3,8 +3,7 @@ ghost use Rattle.state_text.specs.Place.{place_name};
 
 use fork_request::{RepositoryName, TenantName};
 
-// Where in a tenant's lines a text is: within one of its repositories, or within an offer to this
-// receiver.
+// Where in a tenant's lines a text is: in one of its repositories, or in an offer to this receiver.
 #[derive(Drop)]
 pub(crate) enum Place {
     Own(RepositoryName),

@@ -12,14 +12,14 @@ use crate::version::Version;
 use git_name::split_once;
 use std::alloc::Global;
 
-/// The states with this text, in either version. It reads all of the text. Its time is that of the
-/// text's length and, for each reference, a few lookups in a map.
+/// Reads the states from a text of either version. It reads the whole text. Its time is linear in the text's length,
+/// plus a few lookups in a map for each reference.
 pub fn read(alloc: Global, text: &[u8]) -> Result<States, StateFault>
-    // What is read has this spelling.
+    // The text spells what is read.
     ensures found { IfOk result (λ states. IsStateText states text.now) }
     // A state text is read, unless memory runs out.
     ensures only { (states : value.States) → IsStateText states text.now → IfOk result (λ found. found ≡ states) × IfErr result (λ fault. fault ≡ StateFault.Memory) }
-    // Which line is wrong.
+    // The fault gives the wrong line.
     ensures exact { IfErr result (TellsLine text.now) }
 {
     read_lines(alloc, text)

@@ -1,5 +1,4 @@
-// What was read is in memory once, since forks and offers have the references of a repository before
-// them.
+// What items have in common is in memory once: forks and offers have the references of a repository before them.
 ghost use Rattle.std.specs.Prelude.{◌≡◌, ◌<◌, length};
 
 use crate::offer::Offer;
@@ -7,7 +6,7 @@ use crate::states::States;
 use fork_request::RepositoryName;
 use git_reftx::Repository;
 
-// Shares the last item if the line ends it, which is if it adds nothing to it.
+// Shares the last item if this line ends it, that is, adds nothing to it.
 pub(crate) fn share_before(states: &mut States, line: &[u8])
     ensures { states.new ≡ states.old }
 {
@@ -35,7 +34,7 @@ pub(crate) fn share_repository(repositories: &mut [(RepositoryName, Repository)]
     let _shared = repositories[len - 1].1.share_with(&other);
 }
 
-// Of these repositories the last that has so many references, or else the last.
+// The last of these repositories with `count` references. If there is none, the last one.
 fn alike(repositories: &[(RepositoryName, Repository)], count: usize) -> &Repository
     requires { 0 < length repositories.now }
 {

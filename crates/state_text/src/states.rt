@@ -75,8 +75,7 @@ impl States {
         Ok(())
     }
 
-    // What the last item has alike with one before it is in memory once from now on, if memory does not
-    // run out.
+    // Keeps in memory only once what the last item has in common with one before it, if memory does not run out.
     pub(crate) fn share_last(&mut self)
         ensures { self.new ≡ self.old }
     {

@@ -20,9 +20,9 @@ use git_reftx::Repository;
 use std::alloc::{AllocError, Global};
 use std::marker::Model;
 
-/// What outlives a host's process of a tenant: its limit in bytes of use, its repositories, the names
-/// of the objects that it sees, and the offers that it has made. All names are in bytewise order, and
-/// offers are by receiver, then by repository.
+/// What outlives a host's process for one tenant: its limit in bytes of use, its repositories, the names of the objects
+/// that it sees, and the offers that it has made. All names are in bytewise order. Offers are ordered by receiver, then
+/// by repository.
 #[derive(Drop)]
 pub struct TenantState {
     name: TenantName,
@@ -191,7 +191,7 @@ impl TenantState {
         Ok(())
     }
 
-    // What the last item has alike with a repository before it is in memory once from now on.
+    // Keeps in memory only once what the last item has in common with a repository before it.
     pub(crate) fn share_last(&mut self)
         ensures { self.new ≡ self.old }
     {
@@ -201,7 +201,7 @@ impl TenantState {
         }
     }
 
-    // Takes out the last item: an offer, or a repository after which nothing follows.
+    // Takes out the last item: an offer, or a repository with nothing after it.
     pub(crate) fn open(&mut self) -> Option<(Place, Repository)>
         ensures found { IfSome result (λ found. self.old ≡ with_at self.new found.0 found.1) }
         ensures last { IfSome result (λ found. IsLast self.new found.0) }

@@ -201,7 +201,7 @@ fn put_tenants(alloc: Global, out: &mut Vec<u8>, tenants: &[TenantState]) -> Res
     Ok(())
 }
 
-/// The text of the states in version 2, in time linear in it.
+/// Writes the text of the states in version 2, in time linear in its length.
 pub fn write(alloc: Global, states: &States) -> Result<Vec<u8>, AllocError>
     ensures value { IfOk result (λ text. text.items ≡ state_text Two states.now) }
     ensures told { IfOk result (λ text. IsStateText2 states.now text.items) }

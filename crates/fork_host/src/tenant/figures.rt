@@ -48,7 +48,7 @@ impl Tenant {
         ]
     }
 
-    // How many bytes of its open upload came, and 0 where none is open.
+    // How many bytes of its open upload came, and 0 if none is open.
     fn uploaded(&self) -> u64
         ensures { (own : Private) → result ≡ uploaded (seen_by self.now own).upload }
     {

@@ -1,4 +1,4 @@
-// Rows about the HEAD of a repository.
+// The rows of `head` and `set-head`.
 ghost use Rattle.std.specs.Prelude.{◌≡◌};
 ghost use Rattle.std.specs.FinMap as map;
 ghost use Rattle.fork_ledger.specs.Private.{Private};
@@ -15,7 +15,7 @@ use std::alloc::Global;
 
 impl Tenant {
     #[tactic(auto, unfolding(fork_model::specs::Answer::head_answer))]
-    // The branch that HEAD of a repository names, and where it is there its target.
+    // The branch that HEAD of a repository names and, if it exists, its target.
     pub(crate) fn head(&self, alloc: Global, word: &[u8]) -> Reply
         ensures { (own : Private) → Gives (head_answer (seen_by self.now own) word.now) (seen_by self.now own) result (seen_by self.now own) }
     {
@@ -32,7 +32,7 @@ impl Tenant {
     }
 
     #[tactic(auto, unfolding(fork_model::specs::Answer::set_head_answer))]
-    // HEAD of a repository names another branch, be it there or not.
+    // Makes HEAD of a repository name another branch, whether it exists or not.
     pub(crate) fn set_head(&mut self, alloc: Global, word: &[u8], reference: &[u8]) -> Reply
         ensures row { (own : Private) → Gives (set_head_answer (seen_by self.old own) word.now reference.now) (seen_by self.old own) result (seen_by self.new own) }
         ensures upload { self.new.upload ≡ self.old.upload }
@@ -44,7 +44,7 @@ impl Tenant {
         self.point_head(alloc, name, reference)
     }
 
-    // The same, where the word is a name.
+    // As `set_head`, if the word is a valid name.
     fn point_head(&mut self, alloc: Global, name: RepositoryName, reference: &[u8]) -> Reply
         ensures row { (own : Private) → Gives (set_head_in (seen_by self.old own) name reference.now (map.get self.old.repositories name)) (seen_by self.old own) result (seen_by self.new own) }
         ensures upload { self.new.upload ≡ self.old.upload }

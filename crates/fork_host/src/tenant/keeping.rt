@@ -1,4 +1,4 @@
-// What of a tenant outlives the host's process.
+// What outlives the host's process for one tenant.
 ghost use Rattle.std.specs.Prelude.{◌≡◌, IfOk, is_some, option_map};
 ghost use Rattle.fork_model.specs.Sound.{AreToOthers, IsOrderly};
 ghost use Rattle.state_text.specs.Kept.{state_kept};
@@ -42,7 +42,7 @@ impl Tenant {
         self.upload.is_some()
     }
 
-    // The upload, where one is open.
+    // The upload, if one is open.
     pub(crate) fn upload(&self) -> Option<&Incoming>
         ensures { option_map (λ upload. upload.now.brief) result ≡ self.now.upload }
     {

@@ -1,4 +1,4 @@
-// Rows about the offers that a tenant has made, and those that it meets.
+// Rows about the offers that a tenant has made and those that it meets.
 ghost use Rattle.std.specs.Prelude.{◌≡◌, ◌++◌, codes, nat_le, None, OnErr, OnOk, Some, if◌then◌else◌};
 ghost use Rattle.std.specs.Option.{option_copied};
 ghost use Rattle.fork_model.specs.declared.limits.TheConstants.{MAX_REPOSITORIES};
@@ -19,7 +19,7 @@ use std::alloc::{AllocError, Global};
 
 impl Tenant {
     #[tactic(auto, unfolding(fork_model::specs::Answer::offer_answer))]
-    // An offer of a repository as it is to another tenant, be there one of that name or not.
+    // Offers a repository as it is to another tenant, whether that tenant exists or not.
     pub(crate) fn offer(
         &mut self,
         alloc: Global,
@@ -39,7 +39,7 @@ impl Tenant {
         self.offer_repository(alloc, of, to)
     }
 
-    // The same, where both words are names.
+    // As `offer`, if both words are valid names.
     fn offer_repository(&mut self, alloc: Global, of: RepositoryName, to: TenantName) -> Reply
         ensures row { (own : Private) → Gives (offer_in (seen_by self.old own) of to (map.get self.old.repositories of)) (seen_by self.old own) result (seen_by self.new own) }
         ensures upload { self.new.upload ≡ self.old.upload }
@@ -53,7 +53,7 @@ impl Tenant {
         self.add_offer(alloc, of, to, same)
     }
 
-    // One more offer.
+    // Adds an offer.
     fn add_offer(
         &mut self,
         alloc: Global,
@@ -77,7 +77,7 @@ impl Tenant {
     }
 
     #[tactic(auto, unfolding(fork_model::specs::Answer::withdraw_answer))]
-    // An offer goes. Its repository need not be there any more.
+    // Removes an offer. Its repository need not exist any more.
     pub(crate) fn withdraw(
         &mut self,
         alloc: Global,
@@ -102,7 +102,7 @@ impl Tenant {
     }
 
     #[tactic(auto, unfolding(fork_model::specs::Answer::offers_answer))]
-    // The offers to the tenant, of which these are the rows, then those that it has made.
+    // The offers to the tenant, given as rows, then those that it has made.
     pub(crate) fn offers(&self, rows: Vec<u8>) -> Reply
         ensures { (context : Context) (own : Private) → rows.items ≡ offer_rows (codes "from ") context.offered → Gives (offers_answer context (seen_by self.now own)) (seen_by self.now own) result (seen_by self.now own) }
     {
@@ -124,7 +124,7 @@ impl Tenant {
         self.made.get(receiver, name)
     }
 
-    // Adds a row for each offer to this receiver, where this is the tenant's name.
+    // Adds a row for each offer to this receiver. `name` is the tenant's own name.
     pub(crate) fn add_rows_to(
         &self,
         name: &TenantName,
@@ -143,7 +143,7 @@ impl Tenant {
         self.limit
     }
 
-    // What stands against a new repository of this name.
+    // Why a new repository of this name is refused, if it is.
     pub(crate) fn refuses(&self, name: &RepositoryName) -> Option<Refusal>
         ensures { result ≡ (if map.contains_key self.now.repositories name.now then Some (Refusal.RepositoryExists name.now) else if nat_le MAX_REPOSITORIES (map.len self.now.repositories) then Some Refusal.TooMany else None) }
     {
@@ -168,7 +168,7 @@ impl Tenant {
         self.repositories.insert(name, repository)
     }
 
-    // Takes out the repository of a name. It takes no memory.
+    // Removes the repository of a name. It allocates nothing.
     pub(crate) fn take_repository(&mut self, name: &RepositoryName)
         ensures { self.new ≡ record self.old { repositories = map.remove self.old.repositories name.now } }
     {
@@ -181,7 +181,7 @@ ghost use Rattle.fork_request.specs.declared.name.TheConstants.{MAX_TENANT_NAME}
 ghost use Rattle.fork_request.specs.Names.{is_plain_name};
 ghost use Rattle.git_name.specs.Same.{same_name};
 
-// The receiver that a word names, where that is a right name and not the tenant's own.
+// The receiver that a word names, if it is a valid name and not the tenant's own.
 fn receiver_named(own: &TenantName, word: &[u8]) -> Option<TenantName>
     ensures found { IfSome result (λ name. name ≡ word.now) }
     ensures test { is_some result ≡ (is_plain_name MAX_TENANT_NAME word.now && not (same_name word.now own.now)) }

@@ -18,7 +18,7 @@ use std::alloc::{AllocError, Global};
 
 impl Tenant {
     #[tactic(auto, unfolding(fork_model::specs::Answer::prune_answer))]
-    // Objects go that no reference of a repository or of an offer reaches.
+    // Removes the objects that no reference of a repository or of an offer reaches.
     pub(crate) fn prune<S: LooseFiles>(&self, alloc: Global, own: &mut Own<'_, S>) -> Reply
         requires ready { Ready own.old self.now.limit }
         ensures row { IsTrue own.old.vault.now.honest → Yields (prune_answer (shown_by self.now own.old)) (shown_by self.now own.old) result (shown self.now own.new.vault.now own.old.tenant.now) }
@@ -31,7 +31,7 @@ impl Tenant {
         keep_reached(alloc, own, roots.as_slice())
     }
 
-    // Where what is kept begins: at the references of repositories, and at those of offers.
+    // The targets of the references of repositories, then of offers: what they reach is kept.
     fn roots(&self, alloc: Global) -> Result<Vec<Name>, AllocError>
         ensures { IfOk result (λ names. names.items ≡ targets_of self.now.repositories ++ targets_kept self.now.made) }
     {

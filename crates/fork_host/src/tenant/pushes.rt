@@ -1,4 +1,4 @@
-// Rows of pushes, in one body and in parts.
+// The rows of `push`, `part`, `part-end` and `part-drop`.
 ghost use Rattle.std.specs.Prelude.{◌≡◌, [], IsTrue, false};
 ghost use Rattle.std.specs.FinMap as map;
 ghost use Rattle.push_stream.specs.Stream.{sent_in, stream_of};
@@ -29,7 +29,7 @@ use std::alloc::Global;
 
 impl Tenant {
     #[tactic(auto, unfolding(fork_model::specs::Answer::push_answer))]
-    // Commands and objects that come in one body.
+    // Takes commands and objects in one body.
     pub(crate) fn push<S: LooseFiles>(
         &mut self,
         alloc: Global,
@@ -58,7 +58,7 @@ impl Tenant {
         take_body(alloc, &mut self.repositories, own, self.limit, name, read)
     }
 
-    // A piece of an upload, which is begun where none is open.
+    // Takes a piece of an upload. If none is open, begins one.
     pub(crate) fn part<S: LooseFiles>(
         &mut self,
         alloc: Global,
@@ -85,7 +85,7 @@ impl Tenant {
         reply
     }
 
-    // The upload is judged as the body of a push, and goes, unless a host fault keeps it from being judged.
+    // Judges the upload as the body of a push, and ends it, unless a host fault keeps it from being judged.
     pub(crate) fn part_end<S: LooseFiles>(
         &mut self,
         alloc: Global,
@@ -108,7 +108,7 @@ impl Tenant {
         reply
     }
 
-    // The upload is judged as the body of a push, and stays.
+    // Judges the upload as the body of a push, and leaves it open.
     fn end_upload<S: LooseFiles>(
         &mut self,
         alloc: Global,
@@ -147,7 +147,7 @@ impl Tenant {
         )
     }
 
-    // The upload goes, and with it what it has staged.
+    // Discards the upload and what it has staged.
     pub(crate) fn part_drop<S: LooseFiles>(&mut self, alloc: Global, own: &mut Own<'_, S>) -> Reply
         requires ready { Ready own.old self.old.limit }
         requires staged { IsStaged own.old.vault.now.honest self.old.upload (staged_by own.old) }

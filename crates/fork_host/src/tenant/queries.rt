@@ -1,4 +1,4 @@
-// Rows that ask of what a tenant sees, and change nothing.
+// Rows that query what a tenant sees, and change nothing.
 ghost use Rattle.std.specs.Prelude.{[], IsTrue};
 ghost use Rattle.git_name.specs.Text.{words_of};
 ghost use Rattle.fork_model.specs.Answer.{cat_file_answer, fetch_answer, ls_tree_answer, merge_base_answer, rev_list_answer};
@@ -54,7 +54,7 @@ impl Tenant {
     }
 
     #[tactic(auto, unfolding(fork_model::specs::Answer::rev_list_answer))]
-    // The ancestors of the wanted commits that are none of the excluded ones.
+    // The ancestors of the wanted commits, except those of the excluded ones.
     pub(crate) fn rev_list<S: LooseFiles>(
         &self,
         alloc: Global,

@@ -1,4 +1,4 @@
-// Rows about the references of a repository.
+// The rows of `update-refs` and `for-each-ref`.
 ghost use Rattle.std.specs.Prelude.{◌≡◌, Some, option_map, true};
 ghost use Rattle.std.specs.FinMap as map;
 ghost use Rattle.git_reftx.specs.Repository.{Repository};
@@ -19,7 +19,7 @@ use std::alloc::Global;
 
 impl Tenant {
     #[tactic(auto, unfolding(fork_model::specs::Answer::update_answer))]
-    // A transaction of a repository's references.
+    // Carries out a transaction of a repository's references.
     pub(crate) fn update_refs<S: LooseFiles>(
         &mut self,
         alloc: Global,
@@ -44,7 +44,7 @@ impl Tenant {
         }
     }
 
-    // The commands are carried out in a repository that is there, all or none.
+    // Carries out the commands in an existing repository, all or none.
     fn carry_out<S: LooseFiles>(
         &mut self,
         alloc: Global,

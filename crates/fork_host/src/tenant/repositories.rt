@@ -1,4 +1,4 @@
-// Rows about a tenant's repositories.
+// The rows of `init`, `repos`, `drop` and `fork`.
 ghost use Rattle.std.specs.Prelude.{◌≡◌};
 ghost use Rattle.std.specs.FinMap as map;
 ghost use Rattle.fork_ledger.specs.Private.{Private};
@@ -15,7 +15,7 @@ use std::alloc::Global;
 
 impl Tenant {
     #[tactic(auto, unfolding(fork_model::specs::Answer::init_answer))]
-    // A new repository.
+    // Makes a new repository.
     pub(crate) fn init(&mut self, alloc: Global, word: &[u8]) -> Reply
         ensures row { (own : Private) → Gives (init_answer (seen_by self.old own) word.now) (seen_by self.old own) result (seen_by self.new own) }
         ensures upload { self.new.upload ≡ self.old.upload }
@@ -27,7 +27,7 @@ impl Tenant {
         }
     }
 
-    // One more repository.
+    // Adds a repository.
     fn add_repository(
         &mut self,
         alloc: Global,
@@ -62,7 +62,7 @@ impl Tenant {
     }
 
     #[tactic(auto, unfolding(fork_model::specs::Answer::drop_answer))]
-    // A repository goes, and its references with it.
+    // Removes a repository and its references.
     pub(crate) fn drop_repository(&mut self, alloc: Global, word: &[u8]) -> Reply
         ensures row { (own : Private) → Gives (drop_answer (seen_by self.old own) word.now) (seen_by self.old own) result (seen_by self.new own) }
         ensures upload { self.new.upload ≡ self.old.upload }
@@ -79,7 +79,7 @@ impl Tenant {
     }
 
     #[tactic(auto, unfolding(fork_model::specs::Answer::fork_answer))]
-    // A new repository that is a copy of another.
+    // Makes a new repository that is a copy of another.
     pub(crate) fn fork(&mut self, alloc: Global, source: &[u8], copy: &[u8]) -> Reply
         ensures row { (own : Private) → Gives (fork_answer (seen_by self.old own) source.now copy.now) (seen_by self.old own) result (seen_by self.new own) }
         ensures upload { self.new.upload ≡ self.old.upload }
@@ -94,7 +94,7 @@ impl Tenant {
         self.copy_repository(alloc, from, to)
     }
 
-    // The same, where both words are names.
+    // As `fork`, if both words are valid names.
     fn copy_repository(&mut self, alloc: Global, from: RepositoryName, to: RepositoryName) -> Reply
         ensures row { (own : Private) → Gives (copied (seen_by self.old own) from to (map.get self.old.repositories from)) (seen_by self.old own) result (seen_by self.new own) }
         ensures upload { self.new.upload ≡ self.old.upload }

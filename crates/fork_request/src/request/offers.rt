@@ -7,7 +7,7 @@ use super::queries::read_query;
 use super::{Request, plain};
 use crate::words::{is_word, three_words, two_words};
 
-// What the words behind a verb ask that changes offers, or behind a query's.
+// What the words after a verb ask that changes offers, or that is a query's.
 pub(super) fn read_offering<'a>(verb: &'a [u8], words: &'a [u8], body: &'a [u8]) -> Request<'a>
     ensures { ask_of result ≡ asked_offering verb.now (words_of words.now) body.now }
 {

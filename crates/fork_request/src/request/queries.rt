@@ -1,4 +1,4 @@
-// Queries: requests that leave what the tenant has.
+// Queries: requests that change nothing of what the tenant has.
 ghost use Rattle.std.specs.Prelude.{◌≡◌, ◌∷◌, option_map};
 ghost use Rattle.git_name.specs.Text.{words_of};
 ghost use Rattle.fork_request.specs.Asked.{ask_of, asked_bases, asked_cat_file, asked_fetch, asked_head, asked_ls_tree, asked_query, asked_references, asked_revisions};
@@ -7,7 +7,7 @@ use super::{Request, plain};
 use crate::words::{is_word, one_or_two_words, sole_word, three_words, word_and_items};
 use git_name::Name;
 
-// What the words behind a query's verb ask.
+// What the words after a query's verb ask.
 pub(super) fn read_query<'a>(verb: &'a [u8], words: &'a [u8], body: &'a [u8]) -> Request<'a>
     ensures { ask_of result ≡ asked_query verb.now (words_of words.now) body.now }
 {

@@ -18,7 +18,7 @@ fn records(alloc: Global, kept: &mut Kept, names: &Names, letters: &[u8]) -> Res
     Ok(text)
 }
 
-// Whether what is fetched for these items are the records of these objects, and how many reads it took.
+// Whether fetching these items returns the records of these objects, and how many reads that took.
 fn fetches(
     alloc: Global,
     kept: &mut Kept,
@@ -33,7 +33,7 @@ fn fetches(
     Ok((told.as_slice() == wanted.as_slice(), count))
 }
 
-// Whether the answer to what two items want tells that the store failed.
+// Whether a fetch of `l ^f` reports that the store failed.
 fn fails(alloc: Global, kept: &mut Kept) -> Result<bool, AllocError> {
     let names = filled(alloc, kept)?;
     let text = items(alloc, &names, b"l ^f")?;
@@ -62,7 +62,7 @@ fn each_object_is_read_once_to_be_sent_and_once_for_a_walk(rt: HostRuntime) -> R
     Ok(())
 }
 
-// Whether a query failed for its store.
+// Whether a query failed because of its store.
 fn has_failed(answer: &Result<Vec<u8>, QueryError>) -> bool {
     match answer {
         Err(QueryError::Failed(SourceFault::Store)) => true,

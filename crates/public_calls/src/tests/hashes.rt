@@ -5,7 +5,7 @@ use std::io::ErrorKind;
 use std::random::RandomSource;
 use std::test::Fail;
 
-// A system that draws no bytes.
+// A source of random bytes that has none.
 struct Dry;
 
 impl RandomSource for Dry {
@@ -15,13 +15,13 @@ impl RandomSource for Dry {
 }
 
 #[test]
-fn names_are_hashed_behind_what_was_drawn(rt: HostRuntime) -> Result<(), Fail> {
+fn names_are_hashed_with_what_was_drawn(rt: HostRuntime) -> Result<(), Fail> {
     let name = name_of(Kind::Blob, b"hello\n");
     let known = Hashing::default().hash_one(name);
     assert_eq!(rt; Hashing::default().hash_one(name), known);
-    assert_eq!(rt; Hashing::drawn(&Dry).hash_one(name), known);
-    let drawn = Hashing::drawn(&rt).hash_one(name);
+    assert!(rt; Hashing::drawn(&Dry).is_err());
+    let drawn = Hashing::drawn(&rt)?.hash_one(name);
     assert!(rt; drawn != known);
-    assert!(rt; Hashing::drawn(&rt).hash_one(name) != drawn);
+    assert!(rt; Hashing::drawn(&rt)?.hash_one(name) != drawn);
     Ok(())
 }

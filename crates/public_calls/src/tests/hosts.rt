@@ -4,7 +4,7 @@ use loose_store::Memory;
 use std::alloc::Global;
 use std::test::Fail;
 
-/// The names of tenants that these words are.
+/// These words as names of tenants.
 pub fn names(alloc: Global, words: &[&str]) -> Result<Vec<TenantName>, Fail> {
     let mut names = Vec::new(alloc);
     for word in words {
@@ -13,8 +13,8 @@ pub fn names(alloc: Global, words: &[&str]) -> Result<Vec<TenantName>, Fail> {
     Ok(names)
 }
 
-/// A host in memory of these tenants, which may use 1,000 bytes each. Whether they were added is seen by
-/// what they are told: each exit that lets go of a host costs its proof some half a minute.
+/// A host in memory with these tenants, which may use 1,000 bytes each. Tests see by the replies whether the tenants
+/// were added: each exit that drops a host costs its proof about half a minute.
 pub fn host_of(alloc: Global, tenants: &[TenantName]) -> Result<Host<Memory>, Fail> {
     let mut host = Host::new(alloc, Memory::new(alloc))?;
     for name in tenants {

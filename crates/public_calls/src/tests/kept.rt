@@ -4,8 +4,8 @@ ghost use Rattle.std.specs.FinMap as map;
 ghost use Rattle.git_name.specs.Name.{name_cmp};
 
 use fork_push::Sides;
-use fork_reach::{Ancestry, Source, SourceFault};
-use git_name::{Kind, Name, Sealed};
+use fork_reach::{Source, SourceFault};
+use git_name::{Hashing, Kind, Name, Sealed};
 use std::alloc::{AllocError, Global};
 use std::collections::BTreeMap;
 
@@ -54,6 +54,10 @@ impl Source for Kept {
 
     ghost state = { λ kept. record { objects = map.from_entries kept.objects.entries; honest = false; failures = kept.failures; base = tt; rest = tt } };
 
+    fn hashing(&self) -> Hashing {
+        Hashing::default()
+    }
+
     fn kind_of(&self, name: Name) -> Option<Kind> {
         match self.find(name) {
             Some(sealed) => Some(sealed.kind()),
@@ -83,35 +87,6 @@ impl Source for Kept {
             Ok(copy) => Ok(Some(copy)),
             Err(_) => Err(SourceFault::Memory),
         }
-    }
-}
-
-// No parents are known.
-impl Ancestry for Kept {
-    ghost use Rattle.std.specs.Prelude.{[]};
-
-    ghost commits = { λ kept. [] };
-
-    fn learn(&mut self, _alloc: Global, _commit: Name) -> Result<(), SourceFault> {
-        Ok(())
-    }
-
-    fn commit_count(&self) -> usize {
-        0
-    }
-
-    fn invariant(&self) {}
-
-    fn place_of(&self, _name: Name) -> Option<usize> {
-        None
-    }
-
-    fn commit_at(&self, _place: usize) -> Option<Name> {
-        None
-    }
-
-    fn parent_places(&self, _place: usize) -> &[usize] {
-        &[]
     }
 }
 

@@ -2,9 +2,9 @@ use super::kept::Kept;
 use git_name::{Kind, Name, seal};
 use std::alloc::{AllocError, Global};
 
-/// Two commits, left and right, have the first one as their parent, and two others have both of these as
-/// theirs, in either order. One commit stands alone. A tag stands for left, and another one for the tag.
-/// Left has a tree with a blob, the empty tree and a gitlink; all others have the empty tree.
+/// Two commits, left and right, have the first one as their parent. Two others have both of these as parents, in either
+/// order. One more commit has neither parents nor children. A tag points at left, and another one at that tag. Left has
+/// a tree with a blob, the empty tree and a gitlink; all other commits have the empty tree.
 #[derive(Clone, Copy)]
 pub struct Names {
     blob: Name,
@@ -55,7 +55,7 @@ fn put_tag(alloc: Global, kept: &mut Kept, object: Name, rest: &[u8]) -> Result<
     kept.put(seal(Kind::Tag, bytes))
 }
 
-/// Puts a tree of entries, each a mode and a file name as a tree has them, and a name.
+/// Puts a tree of these entries, each a mode and a file name as trees spell them, and an object's name.
 pub fn put_tree(
     alloc: Global,
     kept: &mut Kept,
@@ -79,7 +79,7 @@ pub fn absent() -> Name {
     Name::new([0; 32])
 }
 
-/// Puts all objects among what is kept.
+/// Puts all these objects into `kept`.
 pub fn filled(alloc: Global, kept: &mut Kept) -> Result<Names, AllocError> {
     let blob = put_blob(alloc, kept)?;
     let empty = put_tree(alloc, kept, &[])?;
@@ -112,7 +112,7 @@ pub fn filled(alloc: Global, kept: &mut Kept) -> Result<Names, AllocError> {
     })
 }
 
-/// The object of a letter, and the name of no object for any other one.
+/// The name of the object of a letter. Any other letter gives the name of no object.
 pub fn named(names: &Names, letter: u8) -> Name {
     match letter {
         b'b' => names.blob,
@@ -130,7 +130,7 @@ pub fn named(names: &Names, letter: u8) -> Name {
     }
 }
 
-/// The objects of these letters.
+/// The names of the objects of these letters.
 pub fn all_named(alloc: Global, names: &Names, letters: &[u8]) -> Result<Vec<Name>, AllocError> {
     let mut all = Vec::new(alloc);
     for letter in letters {
@@ -139,7 +139,7 @@ pub fn all_named(alloc: Global, names: &Names, letters: &[u8]) -> Result<Vec<Nam
     Ok(all)
 }
 
-/// The items of a query: digits in place of letters, while `^` and SP stay.
+/// The items of a query, with each letter replaced by its object's digits. `^` and SP stay.
 pub fn items(alloc: Global, names: &Names, text: &[u8]) -> Result<Vec<u8>, AllocError> {
     let mut items = Vec::new(alloc);
     for letter in text {

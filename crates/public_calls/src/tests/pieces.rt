@@ -19,7 +19,7 @@ fn forty(alloc: Global) -> Result<Vec<u8>, AllocError> {
     Ok(bytes)
 }
 
-// How many objects a piece hands out, looked at and then taken; none where it finds no room.
+// How many objects a piece gives, first looked at and then taken; 0 if there is no room for it.
 fn fed(alloc: Global, upload: &mut Incoming, piece: &[u8]) -> Result<usize, AllocError> {
     if upload.count() > 1_048_576 || piece.len() > 1_048_576 {
         return Ok(0);
@@ -32,7 +32,7 @@ fn fed(alloc: Global, upload: &mut Incoming, piece: &[u8]) -> Result<usize, Allo
     Ok(again.objects.len())
 }
 
-// How many objects came of a stream, and how many names it has at its end.
+// How many objects a stream gave, and how many names it has at its end.
 fn ended(alloc: Global, upload: &Incoming, objects: usize) -> Result<(usize, usize), AllocError> {
     match upload.finish(alloc) {
         Ok(brief) => Ok((objects, brief.names.len())),
@@ -40,7 +40,7 @@ fn ended(alloc: Global, upload: &Incoming, objects: usize) -> Result<(usize, usi
     }
 }
 
-// The same of the stream above, cut at a place, and behind it into pieces of so many bytes.
+// As `ended`, for the stream above in a piece of `first` bytes and then pieces of `size` bytes.
 fn cut(alloc: Global, first: usize, size: usize) -> Result<(usize, usize), AllocError> {
     let mut upload = Incoming::new(alloc);
     let at = first.min(STREAM.len());
@@ -61,7 +61,7 @@ fn a_stream_gives_its_objects_once_wherever_it_is_cut(rt: HostRuntime) -> Result
     Ok(())
 }
 
-// The same of a stream in pieces by chance, of up to 4,096 bytes.
+// As `ended`, for a stream in pieces of random length, up to 4,096 bytes.
 fn chopped(alloc: Global, bytes: &[u8], seed: u32) -> Result<(usize, usize), AllocError> {
     let mut upload = Incoming::new(alloc);
     let mut objects = 0usize;
@@ -90,7 +90,7 @@ fn forty_objects_come_once_each_in_pieces_by_chance(rt: HostRuntime) -> Result<(
     Ok(())
 }
 
-// Whether an object that was sent is of this kind and so many bytes.
+// Whether an object that was sent has this kind and length.
 fn is_sent(sent: &Sent, kind: Kind, length: u64) -> bool {
     sent.kind == kind && sent.length == length
 }
@@ -118,8 +118,8 @@ fn add_records(alloc: Global, records: &mut Vec<u8>, objects: &[Sealed]) -> Resu
     Ok(())
 }
 
-// Feeds an upload in pieces of so many bytes. What came are these records; nothing where it broke, or
-// finds no room.
+// Feeds an upload in pieces of `size` bytes, and returns the records of the objects that came; none if the stream broke
+// or there was no room.
 fn gathered(
     alloc: Global,
     upload: &mut Incoming,
@@ -140,7 +140,7 @@ fn gathered(
     Ok(records)
 }
 
-// The bytes that open an upload again, of which these records came.
+// The bytes that open an upload again, given the records that came of it.
 fn opened(alloc: Global, upload: &Incoming, records: &[u8]) -> Result<Vec<u8>, AllocError> {
     let parts = upload.again();
     let mut opened = parts.header.to_vec(alloc)?;
@@ -152,7 +152,7 @@ fn opened(alloc: Global, upload: &Incoming, records: &[u8]) -> Result<Vec<u8>, A
     Ok(opened)
 }
 
-// The same of an upload of which this was all that came, in pieces of so many bytes.
+// As `opened`, for an upload that received these bytes in pieces of `size` bytes.
 fn again(alloc: Global, bytes: &[u8], size: usize) -> Result<Vec<u8>, AllocError> {
     let mut upload = Incoming::new(alloc);
     let records = gathered(alloc, &mut upload, bytes, size)?;
@@ -177,7 +177,7 @@ fn an_upload_is_opened_again_by_the_bytes_that_came(rt: HostRuntime) -> Result<(
     Ok(())
 }
 
-// Whether an upload of these bytes hands out nothing, and ends as the wrong one above.
+// Whether an upload of these bytes gives no objects, and ends with a wrong name.
 fn is_broken(alloc: Global, bytes: &[u8]) -> Result<bool, AllocError> {
     let mut upload = Incoming::new(alloc);
     let objects = fed(alloc, &mut upload, bytes)?;

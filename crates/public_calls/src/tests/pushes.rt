@@ -7,15 +7,15 @@ use push_stream::{Brief, StreamFault};
 use std::alloc::{AllocError, Global};
 use std::test::Fail;
 
-// Both sides use 379 bytes: a blob `b` of one byte, and three trees of one entry. The tree `t` links
-// to the blob, `m` to an object that is not there, and `w` to the blob as a tree.
+// Both sides use 379 bytes: a blob `b` of one byte, and three trees of one entry. The tree `t` links to the blob, `m`
+// to an object that does not exist, and `w` to the blob as a tree.
 const USED: u64 = 379;
 
 fn blob() -> Name {
     name_of(Kind::Blob, b"x")
 }
 
-// The objects by their letters.
+// The objects with their letters.
 fn filled(alloc: Global, kept: &mut Kept) -> Result<[(u8, Name); 4], AllocError> {
     let blob = put_blob(alloc, kept)?;
     let of_blob = put_tree(alloc, kept, &[(b"100644 a\0", blob)])?;
@@ -33,8 +33,7 @@ fn named(objects: &[(u8, Name)], wanted: u8) -> Name {
     absent()
 }
 
-// A stream of the objects of these letters, and of a command that makes the reference point at the
-// blob where it is not there yet.
+// A stream with the objects of these letters, and with a command that creates the reference, which points at the blob.
 fn sent(
     alloc: Global,
     objects: &[(u8, Name)],
@@ -54,7 +53,7 @@ fn sent(
     Ok(Brief { commands, names })
 }
 
-// What a push of the objects of these letters, and of a reference that points at the blob, comes to.
+// The verdict on a push of the objects of these letters, and of a reference that points at the blob.
 fn judged(
     alloc: Global,
     kept: &mut Kept,
@@ -68,7 +67,7 @@ fn judged(
     Ok(told(&verdict))
 }
 
-// What a verdict says, in a word.
+// A verdict in a word.
 fn told(verdict: &Verdict) -> &'static str {
     match verdict {
         Verdict::Accepted(_) => "accepted",
@@ -89,7 +88,7 @@ fn told_refusal(refusal: &PushRefusal) -> &'static str {
 
 #[test]
 fn the_first_reason_decides_and_no_blob_is_read(rt: HostRuntime) -> Result<(), Fail> {
-    // The objects that are sent, the reference, the limit, what is told, and how many objects are read.
+    // The objects that are sent, the reference, the limit, the verdict, and how many objects are read.
     const ROWS: &[(&[u8], &[u8], u64, &str, u64)] = &[
         (b"", b"refs/tags/a", USED, "accepted", 0),
         (b"b", b"refs/tags/a", USED, "accepted", 0),

@@ -18,8 +18,8 @@ fn are(alloc: Global, replies: &[Reply], wanted: &[u8]) -> Result<bool, AllocErr
     Ok(told.as_slice() == wanted)
 }
 
-// Whether a host that has the first of these tenants, and not the second, answers each step of a run,
-// and one step behind it.
+// Whether a host that has the first of these tenants, and not the second, answers each step of a run, and one step
+// after it.
 fn answers_each(
     alloc: Global,
     host: &mut Host<Memory>,

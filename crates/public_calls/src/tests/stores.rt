@@ -7,7 +7,7 @@ fn hello() -> Name {
     name_of(Kind::Blob, b"hello\n")
 }
 
-// Whether a store lends an object that was put, and not a file that a test set, and reads it.
+// Whether a store lends an object that was put but not a file that a test set, and reads the object.
 fn keeps(alloc: Global, files: &mut Memory) -> Result<bool, Fail> {
     let sealed = seal(Kind::Blob, b"hello\n".to_vec(alloc)?);
     let file = file_of(alloc, &sealed)?;
@@ -22,7 +22,7 @@ fn keeps(alloc: Global, files: &mut Memory) -> Result<bool, Fail> {
     Ok(is_set && is_lent && read.bytes() == b"hello\n".as_slice())
 }
 
-// Whether a checked read tells this fault.
+// Whether a checked read returns this fault.
 fn tells(alloc: Global, fused: &mut Fused<Memory>, fault: StoreFault) -> bool {
     match read_checked(alloc, fused, hello()) {
         Ok(_) => false,
@@ -30,7 +30,7 @@ fn tells(alloc: Global, fused: &mut Fused<Memory>, fault: StoreFault) -> bool {
     }
 }
 
-// Whether a store of which the second read fails, and no other call, does so over a damaged file.
+// Whether a store that fails only the second read does so over a damaged file.
 fn fails_once(alloc: Global, fused: &mut Fused<Memory>) -> bool {
     let is_put = fused.put(alloc, hello(), b"blob 6\0hellO\n").is_ok();
     let is_listed = match fused.names(alloc) {
@@ -47,7 +47,7 @@ fn fails_once(alloc: Global, fused: &mut Fused<Memory>) -> bool {
 #[test]
 fn a_fused_store_fails_when_it_should(rt: HostRuntime) -> Result<(), Fail> {
     let alloc = rt.alloc();
-    let mut files = Memory::with_hashing(alloc, Hashing::drawn(&rt));
+    let mut files = Memory::with_hashing(alloc, Hashing::drawn(&rt)?);
     let is_kept = keeps(alloc, &mut files);
     let mut fused = Fused::new(files, Some(Call::Get), 1, 1);
     let has_failed = fails_once(alloc, &mut fused);

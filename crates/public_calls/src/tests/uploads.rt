@@ -9,7 +9,7 @@ use std::test::Fail;
 // Three tenants of a host, and a stranger.
 const WORDS: &[&str] = &["alice", "bob", "carol", "dave"];
 
-// The second and the third of these tenants open uploads.
+// Opens uploads for the second and the third of these tenants.
 fn open_uploads(alloc: Global, host: &mut Host<Memory>, names: &[TenantName]) -> Result<(), Fail> {
     let [_, bob, carol, _] = names else {
         return Err("four names")?;
@@ -20,7 +20,7 @@ fn open_uploads(alloc: Global, host: &mut Host<Memory>, names: &[TenantName]) ->
     Ok(())
 }
 
-// The bytes of a tenant's open upload.
+// Whether these are the bytes of a tenant's open upload; `None` if none is open.
 fn is_open(
     alloc: Global,
     host: &mut Host<Memory>,
@@ -35,7 +35,7 @@ fn is_open(
     }
 }
 
-// Whether a host tells which tenants have uploads open, and by which bytes.
+// Whether a host reports which tenants have open uploads, and their bytes.
 fn tells_uploads(
     alloc: Global,
     host: &mut Host<Memory>,
@@ -59,7 +59,7 @@ fn tells_uploads(
     )
 }
 
-// Whether a host writes the uploads that are open as parts.
+// Whether a host writes open uploads as parts.
 fn writes_uploads(
     alloc: Global,
     host: &mut Host<Memory>,

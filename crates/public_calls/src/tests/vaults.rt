@@ -62,7 +62,7 @@ fn has_published(
     )
 }
 
-// Whether a vault lets go of what a tenant has no more.
+// Whether a vault drops what a tenant no longer has.
 fn has_let_go(
     alloc: Global,
     vault: &mut Vault<Memory>,
@@ -73,7 +73,7 @@ fn has_let_go(
     Ok(vault.lend_held(alice, name).is_none() && vault.collect(alloc).or(Err("collect"))? == 2)
 }
 
-// Whether what a tenant stages in one call goes its way.
+// Whether objects that a tenant stages in one call are staged, published and dropped.
 fn goes_its_way(
     alloc: Global,
     vault: &mut Vault<Memory>,
@@ -94,8 +94,8 @@ fn goes_its_way(
 fn objects_are_staged_in_one_call(rt: HostRuntime) -> Result<(), Fail> {
     let alloc = rt.alloc();
     let alice = TenantName::read(b"alice").ok_or("no name")?;
-    let survey = Survey::new(alloc, Memory::new(alloc))?;
-    let mut vault = Vault::over(alloc, survey).or(Err("over"))?;
+    let survey = Survey::new(alloc, Memory::new(alloc)).or(Err("new"))?;
+    let mut vault = Vault::over(survey);
     let is_right = goes_its_way(alloc, &mut vault, &alice);
     drop(vault);
     assert!(rt; is_right?);

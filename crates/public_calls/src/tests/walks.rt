@@ -51,7 +51,7 @@ fn is_found(found: &IndexSet<Name, Hashing>, names: &Names, letters: &[u8]) -> b
     true
 }
 
-// Whether links lead to these objects from the one side and not from the other, and to nothing else.
+// Whether links lead to these objects from the first names and not from the excluded ones, and to nothing else.
 fn reaches(
     alloc: Global,
     kept: &mut Kept,
@@ -112,7 +112,7 @@ fn parents_lead_to_commits_alone(rt: HostRuntime) -> Result<(), Fail> {
     Ok(())
 }
 
-// What a walk from the outer tag comes to.
+// The fault of a walk from this root, if there is one.
 fn fault_of(alloc: Global, kept: &mut Kept, root: Name) -> Option<SourceFault> {
     match reach(alloc, kept, &[root]) {
         Ok(_) => None,
@@ -120,8 +120,7 @@ fn fault_of(alloc: Global, kept: &mut Kept, root: Name) -> Option<SourceFault> {
     }
 }
 
-// Whether walks from the outer tag tell each read that fails, one after another, and each later one finds
-// all.
+// Whether walks from the inner tag report each read that fails, one after another, and each later walk finds all.
 fn fails_and_goes_on(alloc: Global, kept: &mut Kept) -> Result<bool, Fail> {
     let names = filled(alloc, kept)?;
     let root = named(&names, b'g');
@@ -140,7 +139,7 @@ fn fails_and_goes_on(alloc: Global, kept: &mut Kept) -> Result<bool, Fail> {
     Ok(true)
 }
 
-// What a walk from one object comes to where another one is lost.
+// The fault of a walk from one object when another one is lost.
 fn fault_of_loss(
     alloc: Global,
     kept: &mut Kept,

@@ -29,7 +29,7 @@ const TURNS: [(&str, &str, &str); 5] = [
     ("carol", "init r\n", "no unknown-tenant\n"),
 ];
 
-// The frame of a text behind these words.
+// Adds the frame of a text, which begins with these words.
 fn put_frame(
     alloc: Global,
     words: &str,
@@ -65,7 +65,7 @@ fn ends(alloc: Global) -> Result<Vec<(usize, usize)>, Fail> {
     Ok(ends)
 }
 
-// A peer that waits for its reply: a read fails where bytes were written and not flushed.
+// A peer that waits for its reply: a read fails if bytes were written and not flushed.
 #[derive(Drop)]
 struct Peer<'a> {
     bytes: &'a [u8],
@@ -146,7 +146,7 @@ fn talk(
     Ok((ended, wire.sent.len(), is_front))
 }
 
-// The same with a host of alice and bob.
+// As `talk`, with a host of alice and bob.
 fn session(alloc: Global, reads: usize, steps: usize) -> Result<Told, Fail> {
     let names = names(alloc, &["alice", "bob"])?;
     let mut host = host_of(alloc, names.as_slice())?;

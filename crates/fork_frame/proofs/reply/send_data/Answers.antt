@@ -5,7 +5,7 @@ use Rattle.fork_frame.specs.Reply.{WritesFront}
 use Rattle.fork_frame.proofs.WritingLemmas.{front_before, front_behind}
 use Rattle.fork_frame.proofs.reply.send_data.Goals as goal
 
--- the length of the data behind its word
+-- the length of the data after its word
 counted : (text : List ℕ) → 3 + length text ≡ length (codes "ok\n" ++ text)
 counted text = omega arith
 

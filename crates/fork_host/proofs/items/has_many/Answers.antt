@@ -4,7 +4,7 @@ use Rattle.std.proofs.lemmas.Bool.Decides.{nat_tests}
 use Rattle.git_name.specs.Text.{onto_first, words_of}
 use Rattle.fork_host.proofs.items.has_many.Goals as goal
 
--- a line has one word at the least
+-- a line has at least one word
 some_first : (b : ℕ) (words : List (List ℕ)) → 1 ≤ length (onto_first b words)
 some_first b [] = omega arith
 some_first b (word ∷ words) = omega arith

@@ -3,7 +3,7 @@ use Rattle.fork_host.specs.Handle.{IsSame, both_by}
 use Rattle.fork_host.proofs.RecallLemmas.{Came}
 use Rattle.fork_host.proofs.recalling.recall_all.Given as goal
 
--- those that came so far are staged
+-- the objects of the names so far are staged
 abbrev pub invariant-loop-name : goal.invariant-loop-name
 invariant-loop-name g l = record {
   same : IsSame l.fn.own l.own;

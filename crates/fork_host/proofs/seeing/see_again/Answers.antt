@@ -22,7 +22,7 @@ use Rattle.fork_host.proofs.ReadingLemmas.{are_readings}
 use Rattle.fork_host.proofs.RestoreLemmas.{bad_by, closed_seen, named_came, on_store, right_seen, stands_against}
 use Rattle.fork_host.proofs.seeing.see_again.Goals as goal
 
--- what came to a tenant that had nothing
+-- what was added for a tenant that had nothing
 came_of : {S : Type 0} (first mid : Own S) (names : List (List ℕ)) → private_of first.vault.now.tenants first.tenant.now ≡ nothing → (told : SeesAgain first.tenant.now names first.vault.now mid.vault.now)
     → ChangesTenant first.tenant.now (SeesOnly (with_objects map.empty told.came)) first.vault.now mid.vault.now
 came_of first mid names none told =
@@ -35,7 +35,7 @@ seen_of : {S : Type 0} (first mid : Own S) (names : List (List ℕ)) → private
 seen_of first mid names none tenant told h =
     ap (λ r. visible_in mid.vault.now r.now) tenant ∙ seen_itself first.vault.now mid.vault.now first.tenant.now (with_objects map.empty told.came) (came_of first mid names none told) h
 
--- and stands on it
+-- and is on it
 stored_of : {S : Type 0} (first mid : Own S) (names : List (List ℕ)) (told : SeesAgain first.tenant.now names first.vault.now mid.vault.now) → IsTrue first.vault.now.honest → AreOnStore first.vault.now.files names (with_objects map.empty told.came)
 stored_of first mid names told h = on_store first.vault.now.files names told.came told.among (told.whole h) (told.all h)
 

@@ -6,7 +6,6 @@ use Rattle.fork_ledger.specs.Kept.{Covers}
 use Rattle.fork_ledger.proofs.CoverLemmas.{covers_failed, covers_left, exact_left, false_is_true, removed_none}
 use Rattle.fork_ledger.proofs.KeepingLemmas.{away_one, keeps_but}
 use Rattle.fork_ledger.proofs.LedLemmas.{led_but}
-use Rattle.fork_ledger.proofs.LinkLemmas.{linked_but}
 use Rattle.fork_ledger.proofs.LookLemmas.{fewer_names, look_leaves, not_held}
 use Rattle.fork_ledger.proofs.looking.take_away.Goals as goal
 
@@ -41,7 +40,7 @@ returns-in-Ok-clause-covers g c = λ h cover.
 
 pub returns-in-Err-Device-clause-covers : goal.returns-in-Err-Device-clause-covers
 returns-in-Err-Device-clause-covers g c = λ h cover.
-    subst (λ catalogue. Covers c.remove.new.self.contents (places_of catalogue)) (sym c.forget-in-Err-Device.ensures.catalogue)
+    subst (λ catalogue. Covers c.remove.new.self.contents (places_of catalogue)) (sym c.forget.ensures.catalogue)
     (covers_failed c.args.files.now.contents c.remove.new.self.contents (places_of c.args.holdings.now.catalogue) c.args.name cover c.requires.next (c.remove.ensures.others h))
 
 pub returns-in-Err-Memory-clause-covers : goal.returns-in-Err-Memory-clause-covers
@@ -56,22 +55,13 @@ returns-in-Ok-clause-exact g c = λ h exact.
 pub returns-in-Ok-clause-away : goal.returns-in-Ok-clause-away
 returns-in-Ok-clause-away g c = λ h. away_one c.args.files.now.contents c.remove.new.self.contents c.args.name (c.in-Ok.ensures.ok h)
 
-pub returns-in-Ok-clause-linked : goal.returns-in-Ok-clause-linked
-returns-in-Ok-clause-linked g c = λ h known. linked_but c.args.name c.args.graph.now c.forget.new.self c.args.files.now.contents c.remove.new.self.contents (c.remove.ensures.others h) c.forget.ensures known
-
-pub returns-in-Err-Device-clause-linked : goal.returns-in-Err-Device-clause-linked
-returns-in-Err-Device-clause-linked g c = λ h known. linked_but c.args.name c.args.graph.now c.forget.new.self c.args.files.now.contents c.remove.new.self.contents (c.remove.ensures.others h) c.forget.ensures known
-
-pub returns-in-Err-Memory-clause-linked : goal.returns-in-Err-Memory-clause-linked
-returns-in-Err-Memory-clause-linked g c = λ h known. linked_but c.args.name c.args.graph.now c.forget.new.self c.args.files.now.contents c.remove.new.self.contents (c.remove.ensures.others h) c.forget.ensures known
-
 pub returns-in-Ok-clause-led : goal.returns-in-Ok-clause-led
 returns-in-Ok-clause-led g c = λ h led.
     led_but c.args.name c.args.holdings.now.links c.leave.new.self.links c.args.files.now.contents c.remove.new.self.contents (c.remove.ensures.others h) c.leave.ensures.links c.leave.ensures.away led
 
 pub returns-in-Err-Device-clause-led : goal.returns-in-Err-Device-clause-led
 returns-in-Err-Device-clause-led g c = λ h led.
-    led_but c.args.name c.args.holdings.now.links c.forget-in-Err-Device.new.self.links c.args.files.now.contents c.remove.new.self.contents (c.remove.ensures.others h) c.forget-in-Err-Device.ensures.links c.forget-in-Err-Device.ensures.away led
+    led_but c.args.name c.args.holdings.now.links c.forget.new.self.links c.args.files.now.contents c.remove.new.self.contents (c.remove.ensures.others h) c.forget.ensures.links c.forget.ensures.away led
 
 pub returns-in-Err-Memory-clause-led : goal.returns-in-Err-Memory-clause-led
 returns-in-Err-Memory-clause-led g c = λ h led.

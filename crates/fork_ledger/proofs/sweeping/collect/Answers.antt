@@ -45,7 +45,6 @@ loop-done-preserved g c =
       covers = λ h cover. c.look_once.ensures.covers (c.loop-done.invariant.honest ∙ h) (c.loop-done.invariant.covers h cover);
       exact = λ h exact. c.in_ok-left.ensures.exact (c.loop-done.invariant.honest ∙ h) (c.loop-done.invariant.exact h exact);
       away = λ h. away_more c.args.files.now.contents c.loop-done.files.contents c.look_once.new.files.contents (c.loop-done.invariant.away h) (c.in_ok-left.ensures.away (c.loop-done.invariant.honest ∙ h));
-      linked = λ h known. c.look_once.ensures.linked (c.loop-done.invariant.honest ∙ h) (c.loop-done.invariant.linked h known);
       led = λ h known. c.look_once.ensures.led (c.loop-done.invariant.honest ∙ h) (c.loop-done.invariant.led h known);
       honest = c.look_once.ensures.honest ∙ c.loop-done.invariant.honest;
       failures = c.in_ok-left.ensures.cause ∙ c.loop-done.invariant.failures;

@@ -5,7 +5,6 @@ use Rattle.object_table.specs.Rows.{places_of}
 use Rattle.object_table.specs.Holders.{is_held_in}
 use Rattle.fork_ledger.specs.Kept.{Covers, IsExact, KeepsHeld, TakesAway}
 use Rattle.fork_ledger.specs.Led.{AreLed}
-use Rattle.fork_ledger.specs.Linked.{AreLinked}
 use Rattle.fork_ledger.proofs.sweeping.sweep.Given as goal
 
 -- what the looks so far left
@@ -19,7 +18,6 @@ invariant-loop-done g l = record {
   covers : IsTrue l.fn.files.honest → Covers l.fn.files.contents (places_of l.fn.holdings.catalogue) → Covers l.files.contents (places_of l.holdings.catalogue);
   exact : IsTrue l.fn.files.honest → IsExact l.fn.files.contents (places_of l.fn.holdings.catalogue) → IsExact l.files.contents (places_of l.holdings.catalogue);
   away : IsTrue l.fn.files.honest → TakesAway l.fn.files.contents l.files.contents;
-  linked : IsTrue l.fn.files.honest → AreLinked l.fn.graph l.fn.files.contents → AreLinked l.graph l.files.contents;
   led : IsTrue l.fn.files.honest → AreLed l.fn.holdings.links l.fn.files.contents → AreLed l.holdings.links l.files.contents;
   honest : l.files.honest ≡ l.fn.files.honest;
   failures : l.files.failures ≡ l.fn.files.failures;

@@ -5,7 +5,7 @@ use Rattle.git_object.specs.Links.{entry_links}
 use Rattle.fork_push.specs.Push.{is_wrong}
 use Rattle.fork_push.proofs.linking.are_entries_met.Given as goal
 
--- if the bytes are right entries, so are those that are left, and what is wrong is among these
+-- if the bytes are valid entries, so are those that are left, and any wrong link is among these
 abbrev pub invariant-loop-entry : goal.invariant-loop-entry
 invariant-loop-entry g l =
     let both = (g.S.Source.state l.fn.source).objects in

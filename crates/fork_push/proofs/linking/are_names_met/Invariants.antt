@@ -6,7 +6,7 @@ use Rattle.git_object.specs.Links.{commit_link}
 use Rattle.fork_push.specs.Push.{is_wrong}
 use Rattle.fork_push.proofs.linking.are_names_met.Given as goal
 
--- of a commit, what is wrong of its parents is among those that are left
+-- if the bytes are a commit, its wrong parents are among those that are left
 abbrev pub invariant-loop-parent : goal.invariant-loop-parent
 invariant-loop-parent g l =
     let both = (g.S.Source.state l.fn.source).objects in

@@ -6,7 +6,7 @@ use Rattle.git_object.specs.Rest.{links_left}
 use Rattle.fork_push.specs.Push.{is_missing, is_wrong}
 use Rattle.fork_push.proofs.linking.judge_links.Given as goal
 
--- no link so far is missing, and of those that are left the first wrong one counts where none is noted
+-- no link so far is missing, and if no wrong link is noted the first wrong one left counts
 abbrev pub invariant-loop-link : goal.invariant-loop-link
 invariant-loop-link g l =
     let both = (g.S.Source.state l.fn.source).objects in

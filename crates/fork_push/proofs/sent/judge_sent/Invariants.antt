@@ -5,8 +5,7 @@ use Rattle.fork_reach.specs.Faults.{IsAsked}
 use Rattle.fork_push.specs.Push.{is_missing, is_wrong, links_under}
 use Rattle.fork_push.proofs.sent.judge_sent.Given as goal
 
--- the source was asked without a fault, no link so far is missing, and of those that are left the first wrong one counts
--- where none is noted
+-- the source was asked without a fault, no link so far is missing, and if no wrong link is noted the first wrong one left counts
 abbrev pub invariant-loop-name : goal.invariant-loop-name
 invariant-loop-name g l =
     let old = g.S.Source.state l.fn.source in

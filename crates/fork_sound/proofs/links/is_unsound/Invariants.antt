@@ -5,7 +5,7 @@ use Rattle.git_name.specs.Name.{name_cmp}
 use Rattle.fork_sound.specs.Reading.{is_unmet_read}
 use Rattle.fork_sound.proofs.links.is_unsound.Given as goal
 
--- one of the links that are left is unmet where one of all is
+-- some link is unmet if and only if one that is left is
 abbrev pub invariant-loop-link : goal.invariant-loop-link
 invariant-loop-link l =
     let unmet = is_unmet_read l.fn.readings (contains name_cmp l.fn.seen) in

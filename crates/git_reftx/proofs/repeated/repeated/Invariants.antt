@@ -6,7 +6,7 @@ use Rattle.git_name.specs.Name.{name_cmp}
 use Rattle.git_reftx.specs.Transaction.{repeated_ref}
 use Rattle.git_reftx.proofs.repeated.repeated.Given as goal
 
--- the names of the earlier commands, which the set tells
+-- the names of the earlier commands are those in the set
 abbrev pub invariant-loop-order : goal.invariant-loop-order
 invariant-loop-order l = record {
   earlier : List (List ℕ);

@@ -4,7 +4,7 @@ use Rattle.git_tree.specs.Tree.{AreEntries}
 use Rattle.git_tree.specs.Tracks.{Tracks, reached_by}
 use Rattle.git_tree.proofs.tree.check_by.Given as goal
 
--- what was read is a row of right entries
+-- what was read is a row of valid entries
 abbrev pub invariant-loop-at : goal.invariant-loop-at
 invariant-loop-at g l = record {
   within : l.at ≤ length l.bytes;

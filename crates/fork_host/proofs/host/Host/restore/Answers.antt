@@ -11,7 +11,6 @@ use Rattle.state_text.proofs.BehindLemmas.{map_behind}
 use Rattle.fork_model.specs.declared.limits.TheConstants.{MAX_TENANTS}
 use Rattle.fork_host.specs.Refilled.{IsWhy, with_judged}
 use Rattle.fork_host.specs.Restored.{IsShownAgain}
-use Rattle.fork_host.specs.Restored.AreRefused.{WantsMemory}
 use Rattle.fork_host.specs.Shown.{HostState, Trusted, world_of}
 use Rattle.fork_host.specs.declared.later.Later.{Later}
 use Rattle.fork_host.proofs.GatherLemmas.{next_by, parts_at, taken_more}
@@ -20,34 +19,31 @@ use Rattle.fork_host.proofs.ReadingLemmas.{read_at}
 use Rattle.fork_host.proofs.RestoringLemmas.{Going, behind_is, going_more, going_none, len_keys, no_tenants, of_fault, shown_late, told_bad, told_late}
 use Rattle.fork_host.proofs.host.Host.restore.Goals as goal
 
-pub returns-in_default-clause-refused : goal.returns-in_default-clause-refused
-returns-in_default-clause-refused g c = λ h. WantsMemory
-
-pub returns-in_err-readings-clause-refused : goal.returns-in_err-readings-clause-refused
-returns-in_err-readings-clause-refused g c =
+pub returns-in_err-survey-clause-refused : goal.returns-in_err-survey-clause-refused
+returns-in_err-survey-clause-refused g c =
     let told = err_from_is_err_and c.from_residual.result c.from_residual.ensures.1 in
     rw told.1 (λ h. of_fault (g.S.LooseFiles.contents c.args.files) c.args.states told.0 told.2)
 
-pub returns-in_err-host-clause-refused : goal.returns-in_err-host-clause-refused
-returns-in_err-host-clause-refused g c =
-    let told = err_from_is_err_and c.from_residual-in_err-host.result c.from_residual-in_err-host.ensures.1 in
+pub returns-in_err-readings-clause-refused : goal.returns-in_err-readings-clause-refused
+returns-in_err-readings-clause-refused g c =
+    let told = err_from_is_err_and c.from_residual-in_err-readings.result c.from_residual-in_err-readings.ensures.1 in
     rw told.1 (λ h. of_fault (g.S.LooseFiles.contents c.args.files) c.args.states told.0 told.2)
 
 pub loop-state-init : goal.loop-state-init
 loop-state-init g c =
     let read = c.read_states.ensures in
-    let told = c.in_ok-host.ensures in
+    let told = c.over-host.ensures in
     record {
-      trusted = λ h. told.trusted (read.honest ∙ c.in-Ok.ensures.honest ∙ h);
+      trusted = λ h. told.trusted (read.honest ∙ c.in_ok-survey.ensures.honest ∙ h);
       going = λ h.
-          let was = c.in-Ok.ensures.honest ∙ h in
-          going_none (g.S.LooseFiles.contents c.args.files) c.in_ok-host.host told.empty (told.store.files (read.honest ∙ was) ∙ read.kept was ∙ c.in-Ok.ensures.contents);
-      honest = told.store.honest ∙ read.honest ∙ c.in-Ok.ensures.honest;
-      failures = told.store.failures ∙ c.in_ok-readings.ensures.failures ∙ c.in-Ok.ensures.failures;
-      names = no_tenants c.in_ok-host.host told.empty;
+          let was = c.in_ok-survey.ensures.honest ∙ h in
+          going_none (g.S.LooseFiles.contents c.args.files) c.over-host.result told.empty (told.store.files (read.honest ∙ was) ∙ read.kept was ∙ c.in_ok-survey.ensures.contents h);
+      honest = told.store.honest ∙ read.honest ∙ c.in_ok-survey.ensures.honest;
+      failures = told.store.failures ∙ c.in_ok-readings.ensures.failures ∙ c.in_ok-survey.ensures.failures;
+      names = no_tenants c.over-host.result told.empty;
     }
 
--- the state that comes next is one of those that are told
+-- the next state is one of those that were given
 inside : (items states : States) (i : ℕ) → items ≡ states → i < length items → i < length states
 inside items states i same lt = subst (λ xs. i < length xs) same lt
 
@@ -82,8 +78,8 @@ restore_tenant-judged-requires-clause-read g c =
     let states = c.args.states in
     let before = c.loop-state.invariant in
     let host = c.loop-state.host in
-    let store = c.in-Ok.ensures in
-    read_at c.in-Ok.survey.honest host.vault.honest c.in-Ok.survey.contents host.vault.files tenant.seen c.in_ok-readings.readings (before.honest ∙ sym store.honest) (λ h. (before.going (sym store.honest ∙ h)).same ∙ sym store.contents)
+    let store = c.in_ok-survey.ensures in
+    read_at c.in_ok-survey.survey.honest host.vault.honest c.in_ok-survey.survey.contents host.vault.files tenant.seen c.in_ok-readings.readings (before.honest ∙ sym store.honest) (λ h. (before.going (sym store.honest ∙ h)).same ∙ sym (store.contents (sym store.honest ∙ h)))
     (c.in_ok-readings.ensures.read tenant (subst (λ (ts : States). Contains ts tenant) (sym c.as_slice.ensures.tenants)
     (i, inside c.as_slice-state-items.result.now states i same c.loop-state-test.true, sym (next c.as_slice-state-items.result.now states i tenant same c.state-item.is))))
 
@@ -118,7 +114,7 @@ loop-state-preserved g c =
     let lt = inside c.as_slice-state-items.result.now states i same c.loop-state-test.true in
     let is = next c.as_slice-state-items.result.now states i tenant same c.state-item.is in
     let more = taken_more states i tenant lt is in
-    let none = sym c.note.ensures.told ∙ c.in_default-note.is in
+    let none = sym c.note.ensures.told ∙ c.in_default.is in
     let noted = c.note.ensures.noted ∙ ap (λ name. with_judged c.loop-state.later name result) c.name.ensures.name in
     record {
       trusted = λ h. judged.trusted (before.trusted h);

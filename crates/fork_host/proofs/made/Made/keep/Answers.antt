@@ -28,11 +28,11 @@ row c = (c.in-Some.pair.now, c.in-Some.repository.now)
 told : (c : goal.After-new) → c.new.result ≡ offer_told (row c)
 told c = c.new.ensures ∙ (λ i. record { receiver = c.copy-in-loop-pair.ensures i; name = c.copy-in-loop-pair-2.ensures i; repository = c.in_ok-repository.ensures i })
 
--- those before it, it and those behind it are all
+-- those before it, it and those after it are all
 whole : (c : goal.After-new) → c.loop-pair.invariant.0 ++ row c ∷ c.next.new.self ≡ entries c.args.self.now
 whole c = so_far c.loop-pair.invariant.0 (row c) c.next.new.self c.loop-pair.pair-iterator (entries c.args.self.now) c.in-Some.ensures.steps c.loop-pair.invariant.1
 
--- the offers that are told
+-- the offers that were appended
 offers : (c : goal.After-new) → c.loop-pair.state.offers ≡ map offer_told c.loop-pair.invariant.0
 offers c = ap (λ t. t.offers) c.loop-pair.invariant.2 ∙ ap (λ os. os ++ map offer_told c.loop-pair.invariant.0) c.requires.none
 

@@ -5,7 +5,7 @@ use Rattle.git_reftx.specs.Repository.{Repository}
 use Rattle.fork_model.specs.Figures.{references_in}
 use Rattle.fork_host.proofs.repositories.Repositories.reference_count.Given as goal
 
--- as many as were counted, and then those of the repositories that are left, are all; and of each repository there are few
+-- the count so far, and then the references of the repositories that are left, are all; and each repository has few
 abbrev pub invariant-loop-repository : goal.invariant-loop-repository
 invariant-loop-repository l = record {
   counted : l.count + sum_by (λ (r : Repository). len r.references) l.repository-iterator ≡ references_in l.fn.self;

@@ -20,8 +20,7 @@ invariant_of-self g c = λ h.
             (λ same. subst (λ m. IsStored (tenants_of files m) files) (sym same) kept.stored);
         covers = subst (λ catalogue. Covers files (places_of catalogue)) (sym c.add.ensures.catalogue) kept.covers;
       },
-      (c.self.invariant h).1,
-      led_same c.self.inside.holdings.links c.add.new.self.links files c.add.ensures.links (c.self.invariant h).2,
+      led_same c.self.inside.holdings.links c.add.new.self.links files c.add.ensures.links (c.self.invariant h).1,
     )
 
 pub returns-clause-ok : goal.returns-clause-ok

@@ -24,8 +24,7 @@ invariant_of-self-2 g c = λ h.
             (stored_adopted (tenants_of files m) c.args.to.now c.args.from.now files names kept.stored);
         covers = subst (λ p. Covers files p) (sym c.in-Ok.ensures.places) kept.covers;
       },
-      (c.self.invariant h).1,
-      led_same c.self.inside.holdings.links c.adopt.new.self.links files c.adopt.ensures.links (c.self.invariant h).2,
+      led_same c.self.inside.holdings.links c.adopt.new.self.links files c.adopt.ensures.links (c.self.invariant h).1,
     )
 
 pub returns-clause-ok : goal.returns-clause-ok

@@ -21,8 +21,7 @@ invariant_of-self g c = λ h.
     let was = sym c.collect.ensures.honest ∙ h in (
       kept_after c.self.inside.files.contents c.collect.new.files.contents c.self.inside.holdings.ledgers c.collect.new.holdings.ledgers (places_of c.self.inside.holdings.catalogue) (places_of c.collect.new.holdings.catalogue)
           c.collect.ensures.ledgers (c.collect.ensures.keeps was) (c.collect.ensures.covers was) (c.self.invariant was).0,
-      c.collect.ensures.linked was (c.self.invariant was).1,
-      c.collect.ensures.led was (c.self.invariant was).2,
+      c.collect.ensures.led was (c.self.invariant was).1,
     )
 
 pub returns-clause-kept : goal.returns-clause-kept

@@ -20,8 +20,7 @@ invariant_of-self g c = λ h.
         stored = subst (λ m. IsStored m files) (sym is) (stored_at (tenants_of files c.self.inside.holdings.ledgers) c.args.tenant.now files with_discarded brings_discarded kept.stored);
         covers = subst (λ p. Covers files p) (sym c.discard.ensures.places) kept.covers;
       },
-      (c.self.invariant h).1,
-      led_same c.self.inside.holdings.links c.discard.new.self.links files c.discard.ensures.links (c.self.invariant h).2,
+      led_same c.self.inside.holdings.links c.discard.new.self.links files c.discard.ensures.links (c.self.invariant h).1,
     )
 
 pub returns-clause-tenants : goal.returns-clause-tenants

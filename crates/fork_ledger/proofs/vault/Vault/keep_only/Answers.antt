@@ -20,8 +20,7 @@ invariant_of-self g c = λ h.
         stored = subst (λ m. IsStored m files) (sym is) (stored_at (tenants_of files c.self.inside.holdings.ledgers) c.args.tenant.now files (with_kept (g.N.NameSet.names c.args.names.now)) (brings_kept (g.N.NameSet.names c.args.names.now)) kept.stored);
         covers = subst (λ p. Covers files p) (sym c.keep_only.ensures.places) kept.covers;
       },
-      (c.self.invariant h).1,
-      led_same c.self.inside.holdings.links c.keep_only.new.self.links files c.keep_only.ensures.links (c.self.invariant h).2,
+      led_same c.self.inside.holdings.links c.keep_only.new.self.links files c.keep_only.ensures.links (c.self.invariant h).1,
     )
 
 pub returns-clause-tenants : goal.returns-clause-tenants

@@ -11,6 +11,5 @@ invariant_of-self g c = λ h.
     let before = c.self.inside.holdings in
     let kept = c.self.invariant h in (
       subst (λ catalogue. IsKept c.keep_reached.new.self.ledgers files (places_of catalogue)) (sym c.keep_reached.ensures.catalogue) (subst (λ m. IsKept m files (places_of before.catalogue)) (sym c.keep_reached.ensures.ledgers) kept.0),
-      kept.1,
-      led_rested files before.ledgers c.args.tenant.now before.links Links kept.0.stored kept.2 c.keep_reached.new.self.links c.keep_reached.ensures.links,
+      led_rested files before.ledgers c.args.tenant.now before.links Links kept.0.stored kept.1 c.keep_reached.new.self.links c.keep_reached.ensures.links,
     )

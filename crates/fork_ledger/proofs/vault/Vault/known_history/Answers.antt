@@ -22,7 +22,7 @@ returns-clause-found g c = λ h.
     let links = c.self.inside.holdings.links in
     let kept = c.self.invariant was in
     subst (λ (s : VaultState). IfOk c.history.result (λ known. IfSome known (λ found. (name : List ℕ) → contains same_name found name ≡ is_between (parent_names (private_of s.tenants t).visible) (private_of s.tenants t).visible c.args.wanted.now c.args.excluded.now name))) c.self.view_is
-    (told_each _ _ _ _ c.history.result (λ found only all known name. between_is files m t links Parents kept.0.stored kept.2 c.args.wanted.now c.args.excluded.now known name (contains same_name found name) (only name) (all name)) c.history.ensures.only c.history.ensures.all c.history.ensures.known)
+    (told_each _ _ _ _ c.history.result (λ found only all known name. between_is files m t links Parents kept.0.stored kept.1 c.args.wanted.now c.args.excluded.now known name (contains same_name found name) (only name) (all name)) c.history.ensures.only c.history.ensures.all c.history.ensures.known)
 
 pub returns-clause-there : goal.returns-clause-there
 returns-clause-there g c =

@@ -16,7 +16,7 @@ returns-clause-told g c = λ h.
     let kept = c.self.invariant was in
     let one = timed (get links c.args.name) c.in-Some.time (sym c.in-Some.is ∙ c.time.ensures) in
     let there : contains_key (Seen m t) c.args.name ≡ true = seen_word m t c.args.name ∙ sym c.sees-is_seen.ensures ∙ c.if-not-is_seen.false in
-    c.saturating_sub.ensures ∙ ap (λ n. n - 1) (sym one.2) ∙ seconds_is files m t links Links kept.0.stored kept.2 c.args.name one.0 there one.1
+    c.saturating_sub.ensures ∙ ap (λ n. n - 1) (sym one.2) ∙ seconds_is files m t links Links kept.0.stored kept.1 c.args.name one.0 there one.1
     ∙ ap (λ (s : VaultState). (note_at (private_of s.tenants t).visible c.args.name).seconds) c.self.view_is
 
 pub returns-clause-there : goal.returns-clause-there

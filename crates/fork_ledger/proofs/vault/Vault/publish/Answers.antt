@@ -21,8 +21,7 @@ invariant_of-self g c = λ h.
         stored = subst (λ m. IsStored m files) (sym is) (stored_at (tenants_of files c.self.inside.holdings.ledgers) c.args.tenant.now files with_published brings_published kept.stored);
         covers = subst (λ catalogue. Covers files (places_of catalogue)) (sym c.publish.ensures.catalogue) kept.covers;
       },
-      (c.self.invariant h).1,
-      led_same c.self.inside.holdings.links c.publish.new.self.links files c.publish.ensures.links (c.self.invariant h).2,
+      led_same c.self.inside.holdings.links c.publish.new.self.links files c.publish.ensures.links (c.self.invariant h).1,
     )
 
 pub returns-clause-tenants : goal.returns-clause-tenants

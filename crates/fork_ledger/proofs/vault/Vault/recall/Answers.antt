@@ -17,8 +17,7 @@ invariant_of-self g c = λ h.
         stored = recalled_stored c.recall_known.result c.args.tenant.now c.args.name files c.self.inside.holdings.ledgers c.recall_known.new.holdings.ledgers c.self.inside.files.honest c.args.kind c.args.length h c.recall_known.ensures.ok c.recall_known.ensures.err kept.stored;
         covers = c.recall_known.ensures.covers files kept.covers;
       },
-      (c.self.invariant h).1,
-      led_same c.self.inside.holdings.links c.recall_known.new.holdings.links files c.recall_known.ensures.links (c.self.invariant h).2,
+      led_same c.self.inside.holdings.links c.recall_known.new.holdings.links files c.recall_known.ensures.links (c.self.invariant h).1,
     )
 
 pub returns-clause-recalls : goal.returns-clause-recalls

@@ -14,7 +14,6 @@ use Rattle.fork_ledger.specs.Tenants.{VaultState, at_tenant, shape_of}
 use Rattle.fork_ledger.proofs.ClashLemmas.{held_refuses, vault_still}
 use Rattle.fork_ledger.proofs.KeepingLemmas.{stored_keeps, tenants_keep}
 use Rattle.fork_ledger.proofs.LedLemmas.{led_stays}
-use Rattle.fork_ledger.proofs.LinkLemmas.{linked_still}
 use Rattle.fork_ledger.proofs.ShownShapes.{shape_any, staged_shape}
 use Rattle.fork_ledger.proofs.StagedLemmas.{ok_both, staged_stored, staged_tenants, staged_undamaged}
 use Rattle.fork_ledger.proofs.StoreLemmas.{undamaged_in}
@@ -36,8 +35,7 @@ invariant_of-self g c = λ h.
             (λ same. subst (λ x. IsStored (tenants_of new x) new) (sym same) (stored_keeps m old new keeps kept.stored));
         covers = c.stage_whole.ensures.covers was kept.covers;
       },
-      linked_still c.self.inside.graph old new (c.stage_whole.ensures.stands was) (c.self.invariant was).1,
-      led_stays c.self.inside.holdings.links c.stage_whole.new.holdings.links old new c.stage_whole.ensures.links (c.stage_whole.ensures.stands was) (c.self.invariant was).2,
+      led_stays c.self.inside.holdings.links c.stage_whole.new.holdings.links old new c.stage_whole.ensures.links (c.stage_whole.ensures.stands was) (c.self.invariant was).1,
     )
 
 pub returns-clause-ok : goal.returns-clause-ok
@@ -87,7 +85,7 @@ pub returns-clause-met : goal.returns-clause-met
 returns-clause-met g c = λ met.
     let files = c.self.inside.files.contents in
     let told = c.stage_whole.ensures.met (held_refuses files c.self.inside.holdings.ledgers c.args.sealed (subst (λ (s : VaultState). MeetsHeld c.args.sealed s.tenants) (sym c.self.view_is) met)) in
-    (told.0, vault_still c.self.inside.files c.stage_whole.new.files c.self.inside.holdings c.stage_whole.new.holdings c.self.inside.graph told.1 told.2 ∙ c.self.view_is)
+    (told.0, vault_still c.self.inside.files c.stage_whole.new.files c.self.inside.holdings c.stage_whole.new.holdings told.1 told.2 ∙ c.self.view_is)
 
 pub returns-clause-store : goal.returns-clause-store
 returns-clause-store g c = record {

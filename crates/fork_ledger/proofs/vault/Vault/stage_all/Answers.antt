@@ -20,7 +20,6 @@ use Rattle.fork_ledger.proofs.CameLemmas.{all_came}
 use Rattle.fork_ledger.proofs.ClashLemmas.{held_refuses, vault_still}
 use Rattle.fork_ledger.proofs.KeepingLemmas.{stored_keeps, tenants_keep}
 use Rattle.fork_ledger.proofs.LedLemmas.{led_stays}
-use Rattle.fork_ledger.proofs.LinkLemmas.{linked_still}
 use Rattle.fork_ledger.proofs.ShownShapes.{shape_any}
 use Rattle.fork_ledger.proofs.StagedLemmas.{ok_both}
 use Rattle.fork_ledger.proofs.StoreLemmas.{undamaged_in}
@@ -43,8 +42,7 @@ invariant_of-self g c = λ h.
             (λ same. subst (λ x. IsStored (tenants_of new x) new) (sym {b = m} same) (stored_keeps m old new keeps kept.stored));
         covers = told.covers was kept.covers;
       },
-      linked_still c.self.inside.graph old new (told.stands was) (c.self.invariant was).1,
-      led_stays c.self.inside.holdings.links c.stage_all_whole.new.holdings.links old new told.links (told.stands was) (c.self.invariant was).2,
+      led_stays c.self.inside.holdings.links c.stage_all_whole.new.holdings.links old new told.links (told.stands was) (c.self.invariant was).1,
     )
 
 pub returns-clause-ok : goal.returns-clause-ok
@@ -118,7 +116,7 @@ pub returns-clause-met : goal.returns-clause-met
 returns-clause-met g c = λ object there met.
     let files = c.self.inside.files.contents in
     let told = c.stage_all_whole.ensures.met object there (held_refuses files c.self.inside.holdings.ledgers object (subst (λ (s : VaultState). MeetsHeld object s.tenants) (sym c.self.view_is) met)) in
-    (told.0, vault_still c.self.inside.files c.stage_all_whole.new.files c.self.inside.holdings c.stage_all_whole.new.holdings c.self.inside.graph told.1 told.2 ∙ c.self.view_is)
+    (told.0, vault_still c.self.inside.files c.stage_all_whole.new.files c.self.inside.holdings c.stage_all_whole.new.holdings told.1 told.2 ∙ c.self.view_is)
 
 pub returns-clause-store : goal.returns-clause-store
 returns-clause-store g c = record {

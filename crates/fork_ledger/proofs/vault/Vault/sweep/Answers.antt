@@ -19,8 +19,7 @@ invariant_of-self g c = λ h.
     let was = sym c.sweep.ensures.honest ∙ h in (
       kept_after c.self.inside.files.contents c.sweep.new.files.contents c.self.inside.holdings.ledgers c.sweep.new.holdings.ledgers (places_of c.self.inside.holdings.catalogue) (places_of c.sweep.new.holdings.catalogue)
           c.sweep.ensures.ledgers (c.sweep.ensures.keeps was) (c.sweep.ensures.covers was) (c.self.invariant was).0,
-      c.sweep.ensures.linked was (c.self.invariant was).1,
-      c.sweep.ensures.led was (c.self.invariant was).2,
+      c.sweep.ensures.led was (c.self.invariant was).1,
     )
 
 pub returns-clause-kept : goal.returns-clause-kept
@@ -59,7 +58,7 @@ returns-clause-shape g c =
 pub returns-clause-accounted : goal.returns-clause-accounted
 returns-clause-accounted g c = λ h.
     let was = ap (λ s. s.honest) c.self.view_is ∙ h in
-    accounted c.sweep.new.files.contents c.sweep.new.holdings.ledgers (places_of c.sweep.new.holdings.catalogue) _ _ _
+    accounted c.sweep.new.files.contents c.sweep.new.holdings.ledgers (places_of c.sweep.new.holdings.catalogue) _ _
     (kept_after c.self.inside.files.contents c.sweep.new.files.contents c.self.inside.holdings.ledgers c.sweep.new.holdings.ledgers (places_of c.self.inside.holdings.catalogue) (places_of c.sweep.new.holdings.catalogue)
     c.sweep.ensures.ledgers (c.sweep.ensures.keeps was) (c.sweep.ensures.covers was) (c.self.invariant was).0)
 

@@ -1,5 +1,9 @@
+use Rattle.number_links.proofs.GenerationLemmas.{generations_stay}
 use Rattle.number_links.proofs.KeptLemmas.{all_more}
 use Rattle.number_links.proofs.graph.Graph.learn.Goals as goal
 
 pub invariant_of-self : goal.invariant_of-self
-invariant_of-self c = all_more c.self.inside.links c.note.new.links c.note.ensures.kept c.self.inside.kept.items c.self.invariant
+invariant_of-self c = (
+  all_more c.self.inside.links c.note.new.links c.note.ensures.kept c.self.inside.kept.items c.self.invariant.0,
+  generations_stay (record { links = c.self.inside.links; times = c.self.inside.times }) (record { links = c.note.new.links; times = c.note.new.times }) c.self.inside.generations (λ q there high. c.note.ensures.stays q there) c.self.invariant.1,
+)

@@ -9,7 +9,7 @@ use Rattle.git_name.proofs.TreeMaps.{entries_of_ordered}
 use Rattle.fork_reach.specs.Objects.{use_of, use_of_object}
 use Rattle.public_calls.proofs.tests.kept.KeptSides.is_within.Goals as goal
 
--- what objects use that stand in ordered entries
+-- what the objects of ordered entries use
 use_of_entries : (es : List (List ℕ × Object)) → IsStrictlySortedBy name_cmp (mapped (λ e. e.0) es) → use_of (from_entries {R = name_cmp} es) ≡ sum_by use_of_object (mapped (λ e. e.1) es)
 unfolding use_of
 use_of_entries es sorted = ap (λ fs. sum_by use_of_object (mapped (λ e. e.1) fs)) (entries_of_ordered name_total es sorted)

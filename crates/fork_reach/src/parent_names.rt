@@ -1,0 +1,35 @@
+// The names of a commit's parents.
+ghost use Rattle.std.specs.Prelude.{◌≡◌, IfOk};
+ghost use Rattle.git_commit.specs.Whole.{commit_of};
+ghost use Rattle.fork_reach.specs.ParentNames.{parents_in};
+
+use git_commit::Commit;
+use git_name::{Kind, Name};
+use std::alloc::{AllocError, Global};
+
+// Most commits have so many parents, so room is first made for no more.
+const USUAL: usize = 1;
+
+// The names of a commit's parents, in their order.
+pub(crate) fn parents_of(alloc: Global, commit: &Commit<'_>) -> Result<Vec<Name>, AllocError>
+    ensures { IfOk result (λ names. names.items ≡ (commit_of commit.now).parents) }
+{
+    let mut names = Vec::with_capacity(alloc, USUAL)?;
+    for parent in commit.parents() {
+        names.push(parent)?;
+    }
+    Ok(names)
+}
+
+// The same of the object of this kind and these bytes. If it is not a commit, it has none.
+pub(crate) fn parent_names(alloc: Global, kind: Kind, bytes: &[u8]) -> Result<Vec<Name>, AllocError>
+    ensures { IfOk result (λ names. names.items ≡ parents_in kind bytes.now) }
+{
+    if !matches!(kind, Kind::Commit) {
+        return Ok(Vec::new(alloc));
+    }
+    let Ok(commit) = Commit::read(bytes) else {
+        return Ok(Vec::new(alloc));
+    };
+    parents_of(alloc, &commit)
+}

@@ -1,5 +1,5 @@
--- The descent from numbers to their parents, by keys (own): the key of a number has its generation number first, so that the
--- keys of its parents are lower.
+-- The descent from numbers to their parents, by keys (own): a key has the generation number of its number first, so
+-- that the keys of the parents are lower.
 use Rattle.std.specs.Prelude.{◌≡◌, ◌≢◌, ◌⊎◌, ◌<◌, ◌+◌, ◌*◌, ◌&&◌, ◌||◌, not, ℕ, Bool, true, List, Contains}
 use Rattle.std.specs.BTreeSet.{BTreeSet, contains}
 use Rattle.std.specs.Ordering.{nat_cmp}
@@ -19,7 +19,7 @@ pub record IsKey (generations : List ℕ) (key : ℕ) : Type 0 where
   pub of : key ≡ key_of generations number
   pub high : 1 < generation generations number
 
--- the number of a key goes on to that of another, which is allowed
+-- the number of the second key is allowed, and is a parent of the number of the first
 pub record IsParent (next : ℕ → List ℕ) (allowed : ℕ → Bool) (generations : List ℕ) (at key : ℕ) : Type 0 where
   pub child : IsKey generations at
   pub parent : ℕ
@@ -27,7 +27,7 @@ pub record IsParent (next : ℕ → List ℕ) (allowed : ℕ → Bool) (generati
   pub linked : Contains (next child.number) parent
   pub there : allowed parent ≡ true
 
--- the keys of numbers more, if these are allowed
+-- the keys of these numbers are added, of each if it is allowed
 pub record Puts (numbers : List ℕ) (allowed : ℕ → Bool) (generations : List ℕ) (old new : ℕ → Bool) : Type 0 where
   pub keeps : (key : ℕ) → old key ≡ true → new key ≡ true
   pub only : (key : ℕ) → new key ≡ true → (old key ≡ true) ⊎ ((n : ℕ) × Contains numbers n × (allowed n ≡ true) × (key ≡ key_of generations n))
@@ -39,11 +39,11 @@ pub record SettlesKey (parent : ℕ → ℕ → Type 0) (at : ℕ) (followed : B
   pub only : (key : ℕ) → new key ≡ true → ((key ≢ at) × (old key ≡ true)) ⊎ ((followed ≡ true) × parent at key)
   pub adds : followed ≡ true → (key : ℕ) → parent at key → new key ≡ true
 
--- a key that waits is common, if it is outdone or waits from both sides
+-- a key is common if it is outdone or waits on both sides
 abbrev pub is_common_at : Bool → Bool → Bool → Bool
 is_common_at from_a from_b outdone = outdone || (from_a && from_b)
 
--- what waits from both sides, and what is outdone, after the descent went on from a key
+-- what waits on both sides, and what is outdone, after one step of the descent at a key
 pub record GoesOn (parent : ℕ → ℕ → Type 0) (at : ℕ) (a b gone now_a now_b now_gone : ℕ → Bool) : Type 0 where
   pub of_a : SettlesKey parent at (not (is_common_at (a at) (b at) (gone at)) && a at) a now_a
   pub of_b : SettlesKey parent at (not (is_common_at (a at) (b at) (gone at)) && b at) b now_b

@@ -1,15 +1,15 @@
--- Generation numbers (topological levels, as in Git's commit-graph, gitformat-commit-graph(5)): each commit's is greater than
--- those of its parents. Here 2 is the least, and 1 marks what a commit with one leads to, such as its tree.
+-- Generation numbers (topological levels, as in gitformat-commit-graph(5)): a commit's is greater than those of its
+-- parents. Here 2 is the least, and 1 marks what a commit with a generation links to, such as its tree.
 use Rattle.std.specs.Prelude.{◌≡◌, ◌⊎◌, ◌<◌, ℕ, true, List, Contains, get_or, is_some}
 use Rattle.number_links.specs.Facts.{Facts, goes_on}
 use Rattle.number_links.specs.Known.{known, linked}
 use Rattle.number_links.specs.declared.along.Along.TheVariants.{Parents}
 
--- the generation of a number, 1 if it is only marked, and 0 if it is neither
+-- the generation of a number; 1 if it is only marked, and 0 if it is neither
 abbrev pub generation : List ℕ → ℕ → ℕ
 generation generations n = get_or generations n 0
 
--- what a number with a generation leads to is known and marked, and its parents have lower generations
+-- the links of a number with a generation are known and marked, and its parents have lower generations
 pub record AreGenerations (facts : Facts) (generations : List ℕ) : Type 0 where
   pub known : (n : ℕ) → 1 < generation generations n → is_some (known facts.links n) ≡ true
   pub marked : (n m : ℕ) → 1 < generation generations n → Contains (linked facts.links n) m → 0 < generation generations m

@@ -1,4 +1,4 @@
--- All that some numbers lead to, which is kept so that a walk need not find it again (own).
+-- Kept sets of all that numbers reach, so that a walk need not find them again (own).
 use Rattle.std.specs.Prelude.{◌≡◌, ℕ, Bool, true, List, [], ◌∷◌, Contains, is_some}
 use Rattle.number_sets.specs.Numbers.{has}
 use Rattle.number_links.specs.Known.{Known, known, linked}

@@ -1,4 +1,4 @@
--- What a walk over numbers reaches (own): from some roots on, along links, through numbers that are allowed.
+-- What a walk over numbers reaches (own): from roots, along links, through numbers that are allowed.
 use Rattle.std.specs.Prelude.{◌≡◌, ◌&&◌, ℕ, Bool, true, false, not, List, None, Contains}
 use Rattle.number_links.specs.Known.{Known, known}
 

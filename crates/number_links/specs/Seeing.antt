@@ -10,7 +10,7 @@ count_below (suc n) test = count_below n test + cond (test n) 1 0
 abbrev pub unseen : ℕ → (ℕ → Bool) → (ℕ → Bool) → ℕ
 unseen bound allowed seen = count_below bound (λ n. allowed n && not (seen n))
 
--- numbers were seen to: those that are allowed are seen now, and those that are new wait
+-- numbers were visited: those that are allowed are seen now, and those of them that are new wait
 pub record Sees (bound : ℕ) (allowed : ℕ → Bool) (numbers : List ℕ) (seen : ℕ → Bool) (waits : List ℕ) (now_seen : ℕ → Bool) (now_waits : List ℕ) : Type 0 where
   pub kept : (n : ℕ) → seen n ≡ true → now_seen n ≡ true
   pub stays : (n : ℕ) → Contains waits n → Contains now_waits n

@@ -13,7 +13,7 @@ pub enum Along {
     Parents,
 }
 
-// The time of what leads to these; of what leads to nothing, none is kept.
+// The time to keep for a number with these links. A number without links has 0.
 pub(crate) fn time_beside(to: &[u32], word: u64) -> u64
     ensures { result ≡ time_beside to.now word }
 {
@@ -23,7 +23,7 @@ pub(crate) fn time_beside(to: &[u32], word: u64) -> u64
     word
 }
 
-// The parents of what leads to these: of a commit, all but the first, which is its tree.
+// The parents among these links. A commit's first link is its tree, and the others are its parents.
 fn parents_from(to: &[u32], time: u64) -> &[u32]
     ensures { result.now ≡ parents_from to.now time }
 {
@@ -36,7 +36,7 @@ fn parents_from(to: &[u32], time: u64) -> &[u32]
     &to[1..]
 }
 
-// What a walk goes on to from a number that leads to these.
+// The links that a walk follows from a number with these links.
 pub(crate) fn goes_from<'a>(times: &Times, along: Along, to: &'a [u32], n: u32) -> &'a [u32]
     ensures { result.now ≡ goes_from along to.now (get_or times.now n 0) }
 {

@@ -1,5 +1,4 @@
-// A climb from parents to children, on which each commit gets a generation number (topological level, as in Git's
-// commit-graph).
+// Gives commits generation numbers (topological levels, as in Git's commit-graph), parents before children.
 ghost use Rattle.std.specs.Prelude.{◌≡◌, ◌<◌, ◌≤◌, ℕ, None, IfSome, IfNone, get_or, length};
 ghost use Rattle.number_links.specs.Facts.{goes_on};
 ghost use Rattle.number_links.specs.Generations.{AreGenerations, generation};
@@ -13,7 +12,7 @@ use crate::marking::raise;
 use crate::times::Times;
 use std::alloc::Global;
 
-// A number that waits for a generation, its parents, and the place of the next of them to look at.
+// A number that waits for a generation, its parents, and the index of the next parent to look at.
 #[derive(Clone, Copy)]
 struct Step<'a> {
     number: u32,
@@ -21,7 +20,7 @@ struct Step<'a> {
     next: usize,
 }
 
-// The place of the first parent from one on that has no generation.
+// The index of the first parent without a generation, starting at `from`.
 fn first_without(generations: &Generations, parents: &[u32], from: usize) -> Option<usize>
     ensures some { IfSome result (λ at. (from ≤ at) × (at < length parents.now) × (generation generations.now (get_or parents.now at 0) < 2)) }
     ensures none { IfNone result ((i : ℕ) → from ≤ i → i < length parents.now → 1 < generation generations.now (get_or parents.now i 0)) }
@@ -49,7 +48,7 @@ fn first_step<'a>(links: &'a Links, times: &Times, n: u32) -> Option<Step<'a>>
     })
 }
 
-// Gives a number a generation, if all its parents have one. Returns whether it has one now.
+// Gives a number a generation if all its parents have one. Returns whether it now has one.
 fn give(links: &Links, times: &Times, generations: &mut Generations, n: u32) -> bool
     requires { AreGenerations (record { links = links.now; times = times.now }) generations.old }
     ensures { AreGenerations (record { links = links.now; times = times.now }) generations.new }
@@ -60,8 +59,8 @@ fn give(links: &Links, times: &Times, generations: &mut Generations, n: u32) -> 
     raise(generations, n, to, goes_from(times, Along::Parents, to, n))
 }
 
-// Pushes the number again, and on top of it its first parent without a generation, or gives the number one if all
-// parents have one. Returns whether to go on. More waiting than there are numbers means a cycle.
+// Gives the number a generation if all its parents have one. Otherwise pushes the number again, and its first parent
+// without a generation on top. Returns whether to go on. If more numbers wait than have links, there is a cycle.
 fn go_on<'a>(
     links: &'a Links,
     times: &Times,
@@ -92,7 +91,7 @@ fn go_on<'a>(
     waiting.push(parent).is_ok()
 }
 
-// Gives a number and all that parents lead to from it generations, as far as their links are known.
+// Gives a number and its ancestors generations, as far as their links are known.
 fn climb(alloc: Global, links: &Links, times: &Times, generations: &mut Generations, root: u32)
     requires { AreGenerations (record { links = links.now; times = times.now }) generations.old }
     ensures { AreGenerations (record { links = links.now; times = times.now }) generations.new }
@@ -117,7 +116,7 @@ fn climb(alloc: Global, links: &Links, times: &Times, generations: &mut Generati
     }
 }
 
-// The same for each of these.
+// Does the same for each of these numbers.
 pub(crate) fn climb_all(
     alloc: Global,
     links: &Links,

@@ -1,4 +1,4 @@
-// The best common ancestors, by numbers that are visited from the greatest key down.
+// Finds best common ancestors. Numbers are visited in descending order of their keys.
 ghost use Rattle.std.specs.Prelude.{◌≡◌, ◌<◌, ◌≤◌, ◌⊎◌, ◌↔◌, ◌&&◌, ◌||◌, [], ◌∷◌, true, ℕ, length, nat_eq, is_some, IfOk, IfSome, OnOk};
 ghost use Rattle.number_sets.specs.Numbers.{has};
 ghost use Rattle.number_links.specs.Bases.{IsBest};
@@ -14,7 +14,7 @@ use crate::waiting::{begin, go_on};
 use number_sets::NumberSet;
 use std::alloc::{AllocError, Global};
 
-// Adds a number, if it is a best one.
+// Adds a number if it is a best common ancestor.
 fn note(is_best: bool, n: u32, found: &mut NumberSet) -> Result<(), AllocError>
     ensures { OnOk result ((q : ℕ) → has found.new q ≡ ((is_best && nat_eq q n) || has found.old q)) }
 {
@@ -36,7 +36,7 @@ fn descend(alloc: Global, ground: &Ground<'_>, a: u32, b: u32) -> Result<NumberS
 {
     let mut waiting = begin(alloc, ground, a, b)?;
     let mut found = NumberSet::new(alloc);
-    // All keys from this one on are done, so each turn nears the end.
+    // No key that waits is this large, so each turn lowers the bound.
     let mut below = key_of(ground.generations, a) as u128
         + key_of(ground.generations, b) as u128
         + 1;

@@ -1,4 +1,4 @@
-// A generation number (topological level, as in Git's commit-graph) for each number, 0 after the end.
+// A generation number (topological level, as in Git's commit-graph) for each number. Numbers after the end have 0.
 ghost use Rattle.std.specs.Prelude.{◌≡◌, ◌<◌, ◌≤◌, ℕ, [], OnOk, get_or, set, length};
 ghost use Rattle.number_links.specs.Facts.{Facts};
 ghost use Rattle.number_links.specs.Generations.{AreGenerations, generation};
@@ -7,7 +7,7 @@ use crate::lists::{get, lengthen, put};
 use std::alloc::{AllocError, Global};
 use std::marker::Model;
 
-// For each number its generation, 1 if it is only marked, and 0 if it is neither.
+// For each number, its generation. A marked number without a generation has 1, and any other has 0.
 #[derive(Drop)]
 pub(crate) struct Generations {
     words: Vec<u32>,
@@ -24,7 +24,7 @@ impl Model for Generations {
 }
 
 impl Generations {
-    // No number has one.
+    // No number has a generation.
     pub(crate) fn new(alloc: Global) -> Generations
         ensures { result ≡ [] }
     {
@@ -56,7 +56,7 @@ impl Generations {
         put(&mut self.words, n, generation);
     }
 
-    // If this number has a generation or is marked, clears all.
+    // Clears all generations if this number has one or is marked.
     pub(crate) fn let_go(&mut self, n: u32)
         ensures still { generation self.old n ≡ 0 → self.new ≡ self.old }
         ensures none { generation self.new n ≡ 0 }
@@ -67,7 +67,7 @@ impl Generations {
         }
     }
 
-    // No number has one any more. It allocates nothing.
+    // Clears all generations. Allocates nothing.
     pub(crate) fn clear(&mut self)
         ensures { self.new ≡ [] }
     {

@@ -24,9 +24,9 @@ use number_sets::NumberSet;
 use std::alloc::{AllocError, Global};
 use std::marker::Model;
 
-/// The links of numbers, and the times of commits, as far as they are known. For some numbers, the set of all that
-/// they reach is kept, so that it need not be walked again. Some commits have generation numbers (topological levels, as in
-/// Git's commit-graph), by which common ancestors are found.
+/// The known links of numbers, and the times of commits. For some numbers, the set of all reachable numbers is kept,
+/// so that it need not be walked again. Some commits have generation numbers (topological levels, as in Git's
+/// commit-graph), which serve to find common ancestors.
 #[derive(Drop)]
 pub struct Graph {
     links: Links,
@@ -49,7 +49,7 @@ impl Model for Graph {
 }
 
 impl Graph {
-    /// Nothing is known.
+    /// A graph in which nothing is known.
     pub fn new(alloc: Global) -> Graph
         ensures { (n : ℕ) → learned result n ≡ None }
     {
@@ -71,8 +71,8 @@ impl Graph {
         Some(time_beside(to, self.times.at(n)))
     }
 
-    /// Learns the links of a number and its time, unless they are known. An `Err` means that there is no memory, or
-    /// that there are too many links.
+    /// Learns the links of a number and its time, unless they are known. An `Err` means that memory ran out, or that
+    /// there are too many links.
     pub fn learn(&mut self, n: u32, to: &[u32], time: u64) -> Result<(), AllocError>
         ensures only { (q : ℕ) (one : Learned ℕ) → learned self.new q ≡ Some one → (learned self.old q ≡ Some one) ⊎ ((q ≡ n) × (one ≡ told to.now time)) }
         ensures ok { OnOk result (is_some (learned self.new n) ≡ true) }
@@ -84,8 +84,8 @@ impl Graph {
         note(&mut self.links, &mut self.times, n, to, time)
     }
 
-    /// The number is to be another name's, or nobody's. It allocates nothing. Returns whether everything else that was
-    /// known still is.
+    /// Forgets what is known of a number, so that it can be given to another name. Allocates nothing. Returns whether
+    /// everything else that was known still is.
     pub fn renew(&mut self, n: u32) -> bool
         ensures gone { (q : ℕ) (one : Learned ℕ) → learned self.new q ≡ Some one → (learned self.old q ≡ Some one) × (q ≢ n) × (Contains one.links n → ⊥) }
         ensures stays { result ≡ true → (q : ℕ) (one : Learned ℕ) → learned self.old q ≡ Some one → q ≢ n → (Contains one.links n → ⊥) → learned self.new q ≡ Some one }
@@ -100,8 +100,9 @@ impl Graph {
         true
     }
 
-    /// Keeps the sets of all that the first 8 of these numbers reach. A set is kept if all of it is allowed, if all links in it
-    /// are known or rest, and if it is large. A number in it that rests is known to have no links from then on.
+    /// For each of the first 8 roots, keeps the set of all numbers reachable from it. A set is kept only if it took
+    /// many steps to find, all of it is allowed, and each number in it rests or has known links. A resting number in
+    /// it is then known to have no links.
     pub fn keep<R: Resting>(
         &mut self,
         alloc: Global,
@@ -121,16 +122,16 @@ impl Graph {
         );
     }
 
-    /// Gives these commits and their ancestors generation numbers, as far as their links are known. A commit that has one
-    /// costs nothing. Stops early if memory runs out.
+    /// Gives these commits and their ancestors generation numbers, as far as their links are known. A commit that
+    /// already has one costs nothing. Stops early if memory runs out.
     pub fn learn_generations(&mut self, alloc: Global, from: &[u32])
         ensures { self.new ≡ self.old }
     {
         climb_all(alloc, &self.links, &self.times, &mut self.generations, from);
     }
 
-    /// The best common ancestors of two numbers, or `None` if one of the two has no generation number, as when its links or
-    /// those of an ancestor are not known, or memory ran out.
+    /// The best common ancestors of two numbers, or `None` if one of the two has no generation number. That is so if
+    /// its links or those of an ancestor are not known, or if memory ran out.
     pub fn bases(
         &self,
         alloc: Global,
@@ -150,8 +151,8 @@ impl Graph {
         bases(alloc, &ground, a, b)
     }
 
-    /// The numbers that the wanted ones reach and the excluded ones do not, or `None` if either reach one that neither
-    /// rests nor has known links.
+    /// The numbers reachable from `wanted` but not from `excluded`, or `None` if a number on the way neither rests
+    /// nor has known links.
     pub fn between<R: Resting>(
         &self,
         alloc: Global,
@@ -176,7 +177,7 @@ impl Graph {
         )
     }
 
-    /// The same by the parents of commits.
+    /// The same, following only the parents of commits.
     pub fn history<R: Resting>(
         &self,
         alloc: Global,
@@ -221,7 +222,7 @@ fn note(
     Ok(())
 }
 
-// The numbers that the wanted ones reach and the excluded ones do not.
+// The numbers reachable from `wanted` but not from `excluded`.
 fn between<R: Resting>(
     alloc: Global,
     links: &Links,
@@ -253,7 +254,7 @@ fn between<R: Resting>(
     )
 }
 
-// The same by parents of commits alone.
+// The same, following only the parents of commits.
 fn history<R: Resting>(
     alloc: Global,
     links: &Links,

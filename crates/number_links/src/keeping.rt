@@ -1,4 +1,4 @@
-// Keeps the sets of all that numbers reach.
+// Keeps, for some numbers, the sets of all numbers reachable from them.
 ghost use Rattle.std.specs.Prelude.{◌≡◌, ◌⊎◌, ℕ, List, [], Some, All, true, is_some};
 ghost use Rattle.number_sets.specs.Numbers.{has};
 ghost use Rattle.number_links.specs.Kept.{IsKept};
@@ -15,10 +15,10 @@ use std::alloc::Global;
 // A set that takes fewer steps to find is not kept.
 const FEW: usize = 4096;
 
-// For at most so many numbers of a list the set is kept.
+// Sets are kept for at most this many numbers of a list.
 const MOST_ROOTS: usize = 8;
 
-// Keeps the set of all that a number reaches.
+// Keeps the set of all numbers reachable from one.
 fn keep_one<R: Resting>(
     alloc: Global,
     links: &mut Links,
@@ -56,7 +56,7 @@ fn keep_one<R: Resting>(
     put(kept, Kept { root, reached });
 }
 
-// The same for each of the first of these numbers.
+// Does the same for the first `MOST_ROOTS` of these numbers.
 pub(crate) fn keep_all<R: Resting>(
     alloc: Global,
     links: &mut Links,

@@ -1,4 +1,4 @@
-// Kept sets of all that a number reaches, so that a walk need not find them again.
+// Kept sets of reachable numbers, so that a walk need not find them again.
 ghost use Rattle.std.specs.Prelude.{◌≡◌, [], ◌∷◌, ℕ, All, IfSome, false, true};
 ghost use Rattle.number_sets.specs.Numbers.{has};
 ghost use Rattle.number_links.specs.Kept.{IsAllLedTo, IsKept};
@@ -9,14 +9,14 @@ use number_sets::NumberSet;
 // The largest number of kept sets.
 const MOST: usize = 16;
 
-// All that a number reaches, with the number itself.
+// All numbers reachable from the root, with the root itself.
 #[derive(Drop)]
 pub(crate) struct Kept {
     pub(crate) root: u32,
     pub(crate) reached: NumberSet,
 }
 
-// Whether a set is that of this root, and all of it is allowed.
+// Whether a set belongs to this root, and all of it is allowed.
 fn serves(one: &Kept, allowed: &NumberSet, root: u32) -> bool
     ensures root { result ≡ true → one.now.root ≡ root }
     ensures within { result ≡ true → (n : ℕ) → has one.now.reached n ≡ true → has allowed.now n ≡ true }
@@ -27,7 +27,7 @@ fn serves(one: &Kept, allowed: &NumberSet, root: u32) -> bool
     one.reached.is_within(allowed)
 }
 
-// The set of all that this number reaches, if it is kept and all of it is allowed.
+// The kept set of this root, if there is one and all of it is allowed.
 pub(crate) fn find<'a>(kept: &'a [Kept], allowed: &NumberSet, root: u32) -> Option<&'a NumberSet>
     ensures { (links : Known) → All (IsKept links) kept.now → IfSome result (λ reached. IsAllLedTo links (root ∷ []) (has reached.now) × ((n : ℕ) → has reached.now n ≡ true → has allowed.now n ≡ true)) }
 {
@@ -39,7 +39,7 @@ pub(crate) fn find<'a>(kept: &'a [Kept], allowed: &NumberSet, root: u32) -> Opti
     None
 }
 
-// Drops the first set, if no more may be kept.
+// Drops the oldest set if no more may be kept.
 fn make_room(kept: &mut Vec<Kept>)
     ensures { (links : Known) → All (IsKept links) kept.old.items → All (IsKept links) kept.new.items }
 {
@@ -49,7 +49,7 @@ fn make_room(kept: &mut Vec<Kept>)
     kept.remove(0);
 }
 
-// Keeps one more set. If there is no memory, the set is dropped.
+// Keeps one more set. If memory runs out, the set is dropped.
 pub(crate) fn put(kept: &mut Vec<Kept>, one: Kept)
     ensures { (links : Known) → All (IsKept links) kept.old.items → IsKept links one → All (IsKept links) kept.new.items }
 {

@@ -1,4 +1,4 @@
-// Keys of numbers. The key of a number has its generation first.
+// Keys of numbers. A key has the generation in its high 32 bits and the number in its low 32 bits.
 ghost use Rattle.std.specs.Prelude.{◌≡◌, ◌≤◌, ◌<◌, ◌⊎◌, ◌+◌, ◌*◌, ℕ, true, false, IfSome, IfNone};
 ghost use Rattle.number_links.specs.Descent.{key_of, waits};
 
@@ -19,7 +19,7 @@ pub(crate) fn number_of(key: u64) -> u32
     (key % 4294967296) as u32
 }
 
-// The greater of a key and the last of these.
+// The greater of `at` and the last of these keys.
 pub(crate) fn last_of(keys: &BTreeSet<u64>, at: u64) -> u64
     ensures most { (key : ℕ) → waits keys.now key ≡ true → key ≤ result }
     ensures least { at ≤ result }
@@ -31,7 +31,7 @@ pub(crate) fn last_of(keys: &BTreeSet<u64>, at: u64) -> u64
     if *last > at { *last } else { at }
 }
 
-// The last key of both, if both have some.
+// The greatest key in either set, or `None` if one of the sets is empty.
 pub(crate) fn last_of_both(a: &BTreeSet<u64>, b: &BTreeSet<u64>) -> Option<u64>
     ensures among { IfSome result (λ at. (waits a.now at ≡ true) ⊎ (waits b.now at ≡ true)) }
     ensures most_of_a { IfSome result (λ at. (key : ℕ) → waits a.now key ≡ true → key ≤ at) }

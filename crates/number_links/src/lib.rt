@@ -1,5 +1,5 @@
-//! Links from numbers to numbers, as far as they are known, and walks by them. A walk reads no object, and visits
-//! only numbers that are allowed.
+//! The known links from numbers to numbers, and walks along them. A walk reads no object, and visits only numbers
+//! that are allowed.
 #![tactic(auto)]
 
 mod along;

@@ -8,18 +8,17 @@ use crate::records::{UNKNOWN, read, words, write};
 use std::alloc::{AllocError, Global};
 use std::marker::Model;
 
-/// The links of each number, as far as they are known. The links of a number are forgotten as soon as the number, or
-/// one that it links to, is renewed.
+/// The known links of each number. They are forgotten as soon as the number, or one that it links to, is renewed.
 #[derive(Drop)]
 pub struct Links {
-    // How often numbers were renewed.
+    // How many renewals there were.
     clock: u32,
     // For each number, the clock when it was last renewed; 0 after the end of the list.
     renewed: Vec<u32>,
     // For each number, the place of its record in the pool.
     begins: Vec<u32>,
     pool: Vec<u32>,
-    // About how many words of the pool belong to records that are not known any more.
+    // About how many words of the pool belong to records that are no longer known.
     gone: usize,
 }
 
@@ -36,7 +35,7 @@ impl Model for Links {
 }
 
 impl Links {
-    /// Nothing is known.
+    /// Links of which nothing is known.
     pub fn new(alloc: Global) -> Links
         ensures { (n : ℕ) → known result n ≡ None }
     {
@@ -49,7 +48,7 @@ impl Links {
         }
     }
 
-    // No more numbers than these have links that are known.
+    // An upper bound of how many numbers have known links.
     pub(crate) fn room(&self) -> usize
         ensures { result ≡ length self.now }
     {
@@ -65,8 +64,8 @@ impl Links {
         read(&self.renewed, &self.pool, begin)
     }
 
-    /// Learns the links of a number, replacing what was known of it. An `Err` means that there is no memory, or that the
-    /// pool has 2^32 - 2 words.
+    /// Learns the links of a number, replacing those known before. An `Err` means that memory ran out, or that the
+    /// pool is full, at 2^32 - 2 words.
     pub fn learn(&mut self, n: u32, to: &[u32]) -> Result<(), AllocError>
         ensures only { (q : ℕ) (ms : List ℕ) → known self.new q ≡ Some ms → (known self.old q ≡ Some ms) ⊎ ((q ≡ n) × (ms ≡ to.now)) }
         ensures ok { OnOk result (known self.new n ≡ Some to.now) }
@@ -77,8 +76,8 @@ impl Links {
         self.note(n, to)
     }
 
-    /// The number is to be another name's, or nobody's. It allocates nothing. Returns whether everything else that was
-    /// known still is.
+    /// Forgets what is known of a number, so that it can be given to another name. Allocates nothing. Returns whether
+    /// everything else that was known still is.
     pub fn renew(&mut self, n: u32) -> bool
         ensures gone { (q : ℕ) (ms : List ℕ) → known self.new q ≡ Some ms → (known self.old q ≡ Some ms) × (q ≢ n) × (Contains ms n → ⊥) }
         ensures stays { result ≡ true → (q : ℕ) (ms : List ℕ) → known self.old q ≡ Some ms → q ≢ n → (Contains ms n → ⊥) → known self.new q ≡ Some ms }
@@ -99,7 +98,7 @@ impl Links {
         true
     }
 
-    // Learns the links of a number, with the pool as it is.
+    // Learns the links of a number without packing the pool.
     fn note(&mut self, n: u32, to: &[u32]) -> Result<(), AllocError>
         ensures ok { OnOk result (known self.new n ≡ Some to.now) }
         ensures stays { (q : ℕ) → q ≢ n → known self.new q ≡ known self.old q }
@@ -119,8 +118,8 @@ impl Links {
         Ok(())
     }
 
-    // If more than half of the pool is unused, rebuilds it from the records that are known. If there is no memory, it
-    // stays.
+    // Rebuilds the pool from the known records if more than half of it is unused. If memory runs out, the pool stays
+    // as it is.
     fn pack_if_sparse(&mut self)
         ensures { (q : ℕ) → known self.new q ≡ known self.old q }
     {
@@ -149,8 +148,8 @@ impl Links {
     }
 }
 
-// Writes a number's record at the end of the pool, and makes the lists long enough for the number and for those that
-// it links to.
+// Appends a number's record to the pool, and makes the lists long enough for the number and for those that it links
+// to.
 fn enter(
     clock: u32,
     renewed: &mut Vec<u32>,

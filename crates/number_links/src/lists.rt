@@ -1,4 +1,4 @@
-// Lists of words by number. A number after the end has a default word.
+// Lists with a word for each number. Numbers after the end have a default word.
 ghost use Rattle.std.specs.Prelude.{◌≡◌, ◌<◌, ◌≤◌, ◌⊎◌, ℕ, All, OnOk, get_or, set, length};
 
 use std::alloc::AllocError;

@@ -1,4 +1,4 @@
-// Numbers get generations, and what they lead to is marked.
+// Gives numbers generations, and marks the numbers that they link to.
 ghost use Rattle.std.specs.Prelude.{◌≡◌, ◌<◌, ◌⊎◌, ◌+◌, ℕ, All, Contains, Some, IfSome, IfNone, OnOk};
 ghost use Rattle.number_links.specs.Facts.{Facts, goes_on};
 ghost use Rattle.number_links.specs.Generations.{AreGenerations, IsMarked, generation};
@@ -9,7 +9,7 @@ use crate::generations::Generations;
 use crate::lists::larger;
 use std::alloc::AllocError;
 
-// The least generation for what has these parents, or `None` if one of them has none, or the greatest that there is.
+// The least generation for a commit with these parents, or `None` if a parent has no generation or has `u32::MAX`.
 fn above(generations: &Generations, parents: &[u32]) -> Option<u32>
     ensures least { IfSome result (λ next. 1 < next) }
     ensures above { IfSome result (λ next. All (λ p. (1 < generation generations.now p) × (generation generations.now p < next)) parents.now) }
@@ -27,7 +27,7 @@ fn above(generations: &Generations, parents: &[u32]) -> Option<u32>
     most.checked_add(1)
 }
 
-// Marks a number, unless it is marked or has a generation.
+// Marks a number unless it is marked or has a generation.
 fn mark(generations: &mut Generations, n: u32) -> Result<(), AllocError>
     ensures only { IsMarked generations.old generations.new }
     ensures ok { OnOk result (0 < generation generations.new n) }
@@ -40,7 +40,7 @@ fn mark(generations: &mut Generations, n: u32) -> Result<(), AllocError>
     Ok(())
 }
 
-// The same for each of these.
+// Does the same for each of these numbers.
 fn mark_all(generations: &mut Generations, numbers: &[u32]) -> Result<(), AllocError>
     ensures only { IsMarked generations.old generations.new }
     ensures ok { OnOk result (All (λ n. 0 < generation generations.new n) numbers.now) }
@@ -51,8 +51,8 @@ fn mark_all(generations: &mut Generations, numbers: &[u32]) -> Result<(), AllocE
     Ok(())
 }
 
-// Gives a number that leads to these a generation, if its parents have one, and marks what it leads to. Returns whether it
-// has one now.
+// Gives a number with these links a generation if its parents have one, and marks the numbers that it links to.
+// Returns whether it now has one.
 pub(crate) fn raise(generations: &mut Generations, n: u32, to: &[u32], parents: &[u32]) -> bool
     ensures { (facts : Facts) → known facts.links n ≡ Some to.now → goes_on along_parents facts n ≡ parents.now → AreGenerations facts generations.old → AreGenerations facts generations.new }
 {

@@ -6,8 +6,8 @@ ghost use Rattle.number_links.specs.Seeing.{Sees};
 use number_sets::NumberSet;
 use std::alloc::AllocError;
 
-// Marks a number as seen, and has it wait, if it is allowed, not hidden, and not seen yet. Most numbers of a walk
-// were seen, so that is tested first.
+// Adds a number to `seen` and `waiting` if it is allowed, not hidden, and not yet seen. A walk meets most numbers
+// more than once, so `seen` is tested first.
 pub(crate) fn note(
     allowed: &NumberSet,
     hidden: &NumberSet,
@@ -32,7 +32,7 @@ pub(crate) fn note(
     Ok(())
 }
 
-// The same for each of these.
+// Does the same for each of these numbers.
 pub(crate) fn note_all(
     allowed: &NumberSet,
     hidden: &NumberSet,

@@ -1,11 +1,11 @@
-// Rebuilds a pool from the records that are known.
+// Rebuilds a pool from its known records.
 ghost use Rattle.std.specs.Prelude.{◌≡◌, ◌≢◌, ◌≤◌, ℕ, [], IfOk, OnOk, get_or, length};
 ghost use Rattle.number_links.specs.Records.{AreRecords, IsCopied, IsRecord, told};
 
 use crate::records::{UNKNOWN, read, write};
 use std::alloc::AllocError;
 
-// Writes the records that are known into another pool, as if each were learned now, and lists their places.
+// Copies the known records to another pool, as if each were learned now, and lists their places.
 pub(crate) fn pack(
     clock: u32,
     renewed: &[u32],
@@ -27,7 +27,7 @@ pub(crate) fn pack(
     Ok(())
 }
 
-// Writes the record at a place into another pool, if it is known, and returns its place there.
+// Copies the record at a place to another pool if it is known, and returns its place there.
 fn copy(
     clock: u32,
     renewed: &[u32],

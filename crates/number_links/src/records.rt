@@ -1,17 +1,17 @@
-// A pool of records. Each has the clock when it was learned, the count of its numbers, and the numbers.
+// A pool of records. A record has the clock when it was learned, the count of its numbers, and the numbers.
 ghost use Rattle.std.specs.Prelude.{◌≡◌, ◌≢◌, ◌≤◌, ◌+◌, Some, None, IfOk, IfSome, IfNone, OnErr, get_or, length};
 ghost use Rattle.number_links.specs.Records.{IsWritten, are_still, told};
 
 use crate::lists::get;
 use std::alloc::AllocError;
 
-// The place that stands for no record.
+// The place for no record.
 pub(crate) const UNKNOWN: u32 = 4294967295;
 
-// The place that stands for every record without numbers.
+// The place of every record without numbers.
 pub(crate) const EMPTY: u32 = 4294967294;
 
-// Writes a record at the end, and returns its place.
+// Appends a record, and returns its place.
 pub(crate) fn write(pool: &mut Vec<u32>, clock: u32, to: &[u32]) -> Result<u32, AllocError>
     requires { length pool.old.items ≤ 4294967294 }
     ensures ok { IfOk result (λ begin. IsWritten clock to.now pool.old.items pool.new.items begin) }
@@ -31,7 +31,7 @@ pub(crate) fn write(pool: &mut Vec<u32>, clock: u32, to: &[u32]) -> Result<u32, 
     Ok(begin as u32)
 }
 
-// The record at a place.
+// The numbers of the record at a place, or `None` if one of them was renewed since it was learned.
 pub(crate) fn read<'a>(renewed: &[u32], pool: &'a [u32], begin: u32) -> Option<&'a [u32]>
     requires { begin ≢ 4294967295 → begin ≢ 4294967294 → begin + 2 + get_or pool.now (begin + 1) 0 ≤ length pool.now }
     ensures some { IfSome result (λ to. told renewed.now pool.now begin ≡ Some to.now) }
@@ -52,7 +52,7 @@ pub(crate) fn read<'a>(renewed: &[u32], pool: &'a [u32], begin: u32) -> Option<&
     Some(to)
 }
 
-// Whether none of these was renewed after a clock.
+// Whether none of these numbers was renewed after the clock `learned`.
 fn is_still(renewed: &[u32], learned: u32, numbers: &[u32]) -> bool
     ensures { result ≡ are_still renewed.now learned numbers.now }
 {
@@ -64,7 +64,7 @@ fn is_still(renewed: &[u32], learned: u32, numbers: &[u32]) -> bool
     true
 }
 
-// How many words the record at a place takes.
+// How many words the record at a place takes in the pool.
 pub(crate) fn words(pool: &[u32], begin: u32) -> usize {
     let at = begin as usize + 1;
     if at >= pool.len() {

@@ -1,4 +1,4 @@
-// Makes the links of a set's numbers known, and tests that they are in the set.
+// Makes the links of the numbers in a set known, and tests whether they stay in the set.
 ghost use Rattle.std.specs.Prelude.{◌≡◌, ◌⊎◌, ◌<◌, ℕ, List, [], Some, None, true, is_some, Contains};
 ghost use Rattle.number_sets.specs.Numbers.{has};
 ghost use Rattle.number_links.specs.Known.{known, linked};
@@ -6,7 +6,7 @@ ghost use Rattle.number_links.specs.Known.{known, linked};
 use crate::links::Links;
 use number_sets::NumberSet;
 
-// Whether each of these is in a set.
+// Whether a set has all of these numbers.
 fn has_all(numbers: &NumberSet, these: &[u32]) -> bool
     ensures { result ≡ true → (n : ℕ) → Contains these.now n → has numbers.now n ≡ true }
 {
@@ -18,8 +18,7 @@ fn has_all(numbers: &NumberSet, these: &[u32]) -> bool
     true
 }
 
-// Whether the links of a number are in a set. If nothing is known of the number, it is known to have no links from
-// then on.
+// Whether the links of a number are in a set. A number of which nothing is known is then known to have no links.
 fn settle_one(links: &mut Links, numbers: &NumberSet, n: u32) -> bool
     ensures stays { (q : ℕ) → is_some (known links.old q) ≡ true → known links.new q ≡ known links.old q }
     ensures only { (q : ℕ) (ms : List ℕ) → known links.new q ≡ Some ms → (known links.old q ≡ Some ms) ⊎ ((q ≡ n) × (ms ≡ []) × (known links.old q ≡ None)) }
@@ -32,7 +31,7 @@ fn settle_one(links: &mut Links, numbers: &NumberSet, n: u32) -> bool
     links.learn(n, &[]).is_ok()
 }
 
-// The same for each number of the set.
+// Does the same for each number of the set.
 pub(crate) fn settle(links: &mut Links, numbers: &NumberSet) -> bool
     ensures stays { (q : ℕ) → is_some (known links.old q) ≡ true → known links.new q ≡ known links.old q }
     ensures only { (q : ℕ) (ms : List ℕ) → known links.new q ≡ Some ms → (known links.old q ≡ Some ms) ⊎ ((has numbers.now q ≡ true) × (ms ≡ []) × (known links.old q ≡ None)) }

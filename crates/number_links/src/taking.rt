@@ -1,4 +1,4 @@
-// A walk that takes kept sets whole.
+// A walk that takes each kept set as a whole.
 ghost use Rattle.std.specs.Prelude.{◌≡◌, ◌||◌, ℕ, All, None, false, true, IfOk, IfSome, IfNone, OnOk};
 ghost use Rattle.number_sets.specs.Numbers.{has};
 ghost use Rattle.number_links.specs.Kept.{IsKept};
@@ -22,8 +22,8 @@ fn take(seen: &mut NumberSet, set: &NumberSet) -> Result<(), AllocError>
     Ok(())
 }
 
-// The numbers that the roots reach through allowed ones, or `None` if one of them neither rests nor has known links. If
-// the set of a number is kept, it is taken whole. Each other number is followed once, and counted.
+// The numbers reachable from the roots through allowed ones, or `None` if one of them neither rests nor has known
+// links. A kept set is taken as a whole. Each other number is followed and counted once.
 pub(crate) fn reach_all<R: Resting>(
     alloc: Global,
     links: &Links,

@@ -1,10 +1,10 @@
-// A word for each number, 0 after the end.
+// A time for each number. Numbers after the end have 0.
 ghost use Rattle.std.specs.Prelude.{◌≡◌, ◌<◌, ℕ, [], OnOk, get_or, set, length};
 
 use std::alloc::{AllocError, Global};
 use std::marker::Model;
 
-// For each number, when its commit was made, in seconds since 1970 plus 1; 0 if it is not a commit.
+// For each number, when its commit was made, in seconds since 1970 plus 1, or 0 if it is not a commit.
 #[derive(Drop)]
 pub(crate) struct Times {
     words: Vec<u64>,
@@ -19,7 +19,7 @@ impl Model for Times {
 }
 
 impl Times {
-    // No words.
+    // An empty list.
     pub(crate) fn new(alloc: Global) -> Times
         ensures { result ≡ [] }
     {
@@ -28,7 +28,7 @@ impl Times {
         }
     }
 
-    // The word of a number.
+    // The time of a number.
     pub(crate) fn at(&self, n: u32) -> u64
         ensures { result ≡ get_or self.now n 0 }
     {
@@ -39,7 +39,7 @@ impl Times {
         self.words[at]
     }
 
-    // Makes the list long enough for a number. No word changes.
+    // Makes the list long enough for a number. No time changes.
     pub(crate) fn reserve(&mut self, n: u32) -> Result<(), AllocError>
         ensures words { (i : ℕ) → get_or self.new i 0 ≡ get_or self.old i 0 }
         ensures ok { OnOk result (n < length self.new) }
@@ -47,7 +47,7 @@ impl Times {
         lengthen(&mut self.words, n)
     }
 
-    // Writes the word of a number for which there is one.
+    // Writes the time of a number that is in the list.
     pub(crate) fn put(&mut self, n: u32, word: u64)
         ensures { self.new ≡ set self.old n word }
     {

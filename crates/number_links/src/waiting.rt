@@ -1,4 +1,4 @@
-// Keys that wait, on the descent from two numbers.
+// The keys that wait in the descent from two numbers.
 ghost use Rattle.std.specs.Prelude.{◌≡◌, ◌≤◌, ◌&&◌, [], ◌∷◌, not, false, ℕ, length, IfOk, OnOk};
 ghost use Rattle.number_sets.specs.Numbers.{has};
 ghost use Rattle.number_links.specs.Descent.{GoesOn, IsKey, IsParent, Puts, SettlesKey, waits};
@@ -10,7 +10,8 @@ use crate::keys::{key_of, number_of};
 use std::alloc::{AllocError, Global};
 use std::collections::BTreeSet;
 
-// The keys that wait: of ancestors of the one number, of the other, and of parents of common ones.
+// The keys that wait: of ancestors of the first number, of ancestors of the second, and of parents of common
+// ancestors.
 #[derive(Drop)]
 pub(crate) struct Waiting {
     pub(crate) of_a: BTreeSet<u64>,
@@ -18,7 +19,7 @@ pub(crate) struct Waiting {
     pub(crate) outdone: BTreeSet<u64>,
 }
 
-// Adds the key of a number, if that is allowed.
+// Adds the key of a number if the number is allowed.
 fn put(ground: &Ground<'_>, n: u32, keys: &mut BTreeSet<u64>) -> Result<(), AllocError>
     ensures { OnOk result (Puts (n ∷ []) (has ground.now.allowed.now) ground.now.generations.now (waits keys.old) (waits keys.new)) }
 {
@@ -29,7 +30,7 @@ fn put(ground: &Ground<'_>, n: u32, keys: &mut BTreeSet<u64>) -> Result<(), Allo
     Ok(())
 }
 
-// The same for each of these.
+// Does the same for each of these numbers.
 fn put_all(ground: &Ground<'_>, numbers: &[u32], keys: &mut BTreeSet<u64>) -> Result<(), AllocError>
     ensures { OnOk result (Puts numbers.now (has ground.now.allowed.now) ground.now.generations.now (waits keys.old) (waits keys.new)) }
 {
@@ -39,7 +40,7 @@ fn put_all(ground: &Ground<'_>, numbers: &[u32], keys: &mut BTreeSet<u64>) -> Re
     Ok(())
 }
 
-// Takes a key from those that wait. If it is followed, its parents are queued.
+// Removes a key. If it is followed, the keys of its parents are added.
 fn settle(
     ground: &Ground<'_>,
     at: u64,
@@ -57,7 +58,7 @@ fn settle(
     put_all(ground, parents(ground, number_of(at)), keys)
 }
 
-// Goes on from the last key that waits. Returns whether its number is a best common ancestor.
+// Takes one step from the last key that waits. Returns whether its number is a best common ancestor.
 pub(crate) fn go_on(ground: &Ground<'_>, at: u64, waiting: &mut Waiting) -> Result<bool, AllocError>
     requires few { length ground.now.generations.now ≤ 4294967296 }
     requires key { IsKey ground.now.generations.now at }
@@ -74,7 +75,7 @@ pub(crate) fn go_on(ground: &Ground<'_>, at: u64, waiting: &mut Waiting) -> Resu
     Ok(!is_outdone && (from_a && from_b))
 }
 
-// The keys of two numbers, each if it is allowed.
+// The keys of the two numbers, of each only if it is allowed.
 pub(crate) fn begin(
     alloc: Global,
     ground: &Ground<'_>,

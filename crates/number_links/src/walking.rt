@@ -12,8 +12,8 @@ use crate::times::Times;
 use number_sets::NumberSet;
 use std::alloc::{AllocError, Global};
 
-// The numbers that the roots reach through ones that are allowed and not hidden, or `None` if one of them neither rests
-// nor has known links. Each is followed once.
+// The numbers reachable from the roots through ones that are allowed and not hidden, or `None` if one of them neither
+// rests nor has known links. Each is followed once.
 pub(crate) fn walk<R: Resting>(
     alloc: Global,
     links: &Links,
@@ -41,7 +41,7 @@ pub(crate) fn walk<R: Resting>(
     Ok(Some(seen))
 }
 
-// What a walk goes on to from a number, if that rests or what it leads to is known.
+// The links that a walk follows from a number, or `None` if the number neither rests nor has known links.
 fn follow<'a, R: Resting>(
     links: &'a Links,
     times: &Times,
@@ -59,7 +59,7 @@ fn follow<'a, R: Resting>(
     Some(goes_from(times, along, to, n))
 }
 
-// What a number leads to, if it rests or that is known.
+// The links of a number, or `None` if it neither rests nor has known links.
 pub(crate) fn next<'a, R: Resting>(links: &'a Links, resting: &R, n: u32) -> Option<&'a [u32]>
     ensures some { IfSome result (λ to. linked links.now n ≡ to.now) }
     ensures known { IfSome result (λ to. RestsOrIsKnown links.now (R.rests resting.now) n) }

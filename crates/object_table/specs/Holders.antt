@@ -1,4 +1,4 @@
--- Who holds a name (own): a ledger that has a word of it, whether the object is seen there, staged, or both.
+-- Who holds a name (own): each ledger that has a word of it, whether the object is visible there, staged, or both.
 use Rattle.std.specs.Prelude.{◌≡◌, Bool, ℕ, List, count_by, nat_lt, Some, refl}
 use Rattle.std.specs.Coded.{Coded, code_by, coded×}
 use Rattle.std.specs.FinMap.{FinMap, contains_key, get, values}
@@ -12,16 +12,16 @@ use Rattle.object_table.specs.Views.{IsOwn, Sets, all_words}
 unfoldable pub holders_of : AllWords → List ℕ → ℕ
 holders_of ledgers name = count_by (λ words. contains_key words name) (values ledgers)
 
--- whether any has one
+-- whether any ledger has a word of the name
 abbrev pub is_held_in : AllWords → List ℕ → Bool
 is_held_in ledgers name = nat_lt 0 (holders_of ledgers name)
 
--- the rows' numbers of holders are those of the ledgers, and each tenant's sets are of these rows
+-- the rows count the ledgers that hold their names, and each tenant's sets have only numbers of these rows
 pub record AreHeld (rows : Rows) (tenants : FinMap name_cmp Sets) : Type 0 where
   pub counted : (name : List ℕ) → count_in rows name ≡ holders_of (all_words rows tenants) name
   pub own : (tenant : List ℕ) (sets : Sets) → get tenants tenant ≡ Some sets → IsOwn rows sets
 
--- ledgers, the catalogue, and what is known of what the objects of names lead to
+-- the ledgers, the catalogue, and the known links of objects
 pub record HoldingsState : Type 0 where
   pub ledgers : AllWords
   pub catalogue : TableState

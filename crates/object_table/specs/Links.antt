@@ -1,4 +1,4 @@
--- What names of objects lead to, where that is known (own): it is kept by numbers, and no number is seen from outside.
+-- The known links of objects, by names (own). They are kept by numbers, which are not visible from outside.
 use Rattle.std.specs.Prelude.{◌≡◌, ℕ, Bool, true, false, List, [], ◌∷◌, Option, None, Some, Contains, nat_eq, refl, if◌then◌else◌}
 use Rattle.std.specs.Coded.{Coded, code_by, coded×, coded_ℕ, coded_list}
 use Rattle.std.specs.FinMap.{FinMap, code, from_entries, get}
@@ -13,7 +13,7 @@ use Rattle.object_table.specs.Chosen.{chosen_in}
 use Rattle.object_table.specs.Rows.{IsUsed, Rows, row_in}
 use Rattle.object_table.specs.declared.row.Row.{Row}
 
--- the name that has a number, with its row
+-- the name with a number, and its row
 abbrev pub numbered : Rows → ℕ → Option (List ℕ × Row)
 numbered [] n = None
 numbered (e ∷ rows) n = if nat_eq e.1.number n then Some e else numbered rows n
@@ -22,34 +22,34 @@ numbered (e ∷ rows) n = if nat_eq e.1.number n then Some e else numbered rows 
 abbrev pub numbered_name : Rows → ℕ → List ℕ
 numbered_name rows n = option_map_or (λ e. e.0) (numbered rows n) []
 
--- an object of this kind leads to no other
+-- objects of this kind have no links
 abbrev pub leads_nowhere : Kind → Bool
 leads_nowhere Blob = true
 leads_nowhere Tree = false
 leads_nowhere Commit = false
 leads_nowhere Tag = false
 
--- whether a number is that of an object that leads to no other
+-- whether a number belongs to an object that has no links
 abbrev pub rests_in : Rows → ℕ → Bool
 rests_in rows n = option_map_or (λ e. leads_nowhere e.1.kind) (numbered rows n) false
 
--- names with those that their objects lead to, and their times, of objects of which that is known
+-- the known links and times of objects, by name
 abbrev pub NamedLinks : Type 0
 NamedLinks = FinMap name_cmp (Learned (List ℕ))
 
--- what is known of the object of a row
+-- what is known about the object of a row
 abbrev pub led_from : Rows → Facts → Row → Option (Learned (List ℕ))
 led_from rows links row = option_map (learned_as (numbered_name rows)) (learned links row.number)
 
 abbrev pub named_links : Rows → Facts → NamedLinks
 named_links rows links = from_entries {R = name_cmp} (chosen_in (λ _ row. led_from rows links row) rows)
 
--- links are known of numbers in use, and lead to numbers in use
+-- only numbers in use have known links, and these are numbers in use
 pub record AreLinks (rows : Rows) (links : Facts) : Type 0 where
   pub own : (n : ℕ) (one : Learned ℕ) → learned links n ≡ Some one → IsUsed rows n
   pub used : (n : ℕ) (one : Learned ℕ) (m : ℕ) → learned links n ≡ Some one → Contains one.links m → IsUsed rows m
 
--- each name that was there has its number still, and a name that is new has one that was nobody's
+-- each name that was there keeps its number, and a new name has a number that was not in use
 pub record KeepsNumbers (old new : Rows) : Type 0 where
   pub kept : (q : List ℕ) (row : Row) → row_in old q ≡ Some row → (now : Row) × (row_in new q ≡ Some now) × (now.number ≡ row.number)
   pub fresh : (q : List ℕ) (row : Row) → row_in old q ≡ None → row_in new q ≡ Some row → IsUsed old row.number → ⊥
@@ -58,11 +58,11 @@ pub record KeepsNumbers (old new : Rows) : Type 0 where
 abbrev pub KnowsNoMore : NamedLinks → NamedLinks → Type 0
 KnowsNoMore old new = (name : List ℕ) (one : Learned (List ℕ)) → get new name ≡ Some one → get old name ≡ Some one
 
--- what a walk goes on to from a name; from one of which nothing is known to nothing
+-- what a walk follows from a name; nothing if its links are not known
 abbrev pub next_along : Along → NamedLinks → List ℕ → List (List ℕ)
 next_along along links name = option_map_or (λ one. goes_from along one.links one.time) (get links name) []
 
--- what a name leads to
+-- the links of a name
 abbrev pub next_named : NamedLinks → List ℕ → List (List ℕ)
 next_named links = next_along Links links
 

@@ -1,4 +1,4 @@
--- Numbers of names (own): those in use in the order of places, then those that are free; and for each number where it stands.
+-- Numbers of names (own): those in use, in the order of places, then the free ones; and for each number its place.
 use Rattle.std.specs.Prelude.{◌≡◌, ◌<◌, ◌≤◌, ℕ, List, Some, length, get_or, map}
 use Rattle.std.specs.Map.{keys_of}
 use Rattle.std.specs.List.{IsDistinct}
@@ -6,7 +6,7 @@ use Rattle.git_name.specs.Same.{same_name}
 use Rattle.object_table.specs.declared.row.Row.{Row}
 use Rattle.object_table.specs.Rows.{Rows, row_in}
 
--- each number stands once, at the place that is noted for it
+-- each number occurs once, at the place that is noted for it
 pub record AreNoted (numbers places : List ℕ) : Type 0 where
   pub few : length numbers ≤ 4294967295
   pub even : length places ≡ length numbers

@@ -1,4 +1,4 @@
--- Names in places, each with a row (own): the kind and length of its object, how many tenants hold it, and a number that stays while the name does.
+-- Names in places, each with a row (own): its object's kind and length, how many tenants hold it, and its number.
 use Rattle.std.specs.Prelude.{◌≡◌, ◌<◌, ◌≤◌, ◌++◌, ◌∷◌, ℕ, Bool, true, List, Option, Some, length, cond, refl}
 use Rattle.std.specs.Coded.{Coded, code_by, coded×, coded_list, coded_ℕ}
 use Rattle.std.specs.Option.{option_map, option_map_or}
@@ -14,12 +14,12 @@ use Rattle.object_table.specs.declared.row.Row.{Row}
 abbrev pub Rows : Type 0
 Rows = List (List ℕ × Row)
 
--- these, and the place of the next look
+-- these, and the place that the sweep looks at next
 pub record TableState : Type 0 where
   pub entries : Rows
   pub place : ℕ
 
--- as looks see it
+-- the names and the place, without the rows
 abbrev pub places_of : TableState → Places
 places_of table = record { names = keys_of table.entries; place = table.place }
 
@@ -27,37 +27,37 @@ places_of table = record { names = keys_of table.entries; place = table.place }
 abbrev pub row_in : Rows → List ℕ → Option Row
 row_in rows name = lookup (same_name name) rows
 
--- how many holders a name has; one that is not there has none
+-- how many holders a name has; a name that is not there has none
 abbrev pub count_in : Rows → List ℕ → ℕ
 count_in rows name = option_map_or (λ row. row.holders) (row_in rows name) 0
 
--- one where it is so, and else none
+-- 1 if true, and 0 if false
 abbrev pub one_if : Bool → ℕ
 one_if b = cond b 1 0
 
--- the number of some name
+-- the number belongs to some name
 pub record IsUsed (rows : Rows) (number : ℕ) : Type 0 where
   pub name : List ℕ
   pub row : Row
   pub here : row_in rows name ≡ Some row
   pub same : row.number ≡ number
 
--- what a row tells, whoever holds it
+-- a row without its count of holders
 abbrev pub told_of : Row → Row
 told_of row = record { length = row.length; holders = 0; number = row.number; kind = row.kind }
 
--- rows that tell the same of each name, whoever holds it
+-- two tables have the same rows, except for the counts of holders
 abbrev pub TellSame : Rows → Rows → Type 0
 TellSame old new = (name : List ℕ) → option_map told_of (row_in new name) ≡ option_map told_of (row_in old name)
 
--- the next look falls at this name
+-- the sweep looks at this name next
 pub record LooksNextAt (places : Places) (name : List ℕ) : Type 0 where
   pub front : List (List ℕ)
   pub back : List (List ℕ)
   pub whole : places.names ≡ front ++ name ∷ back
   pub at : length front ≡ looked_at places
 
--- no name stands twice, and no number; lengths are of 64 bits
+-- no name and no number occurs twice; lengths have 64 bits
 pub record AreRows (rows : Rows) : Type 0 where
   pub distinct : IsDistinct same_name (keys_of rows)
   pub few : length rows ≤ 4294967295

@@ -1,4 +1,4 @@
--- What a tenant's two sets of numbers say of names (own): this is what is above the table, and it knows of no number.
+-- The words that a tenant's two sets of numbers give (own). Callers of the table see these words, and no numbers.
 use Rattle.std.specs.Prelude.{◌≡◌, ◌≤◌, ◌<◌, ◌+◌, ℕ, Bool, true, false, ◌||◌, List, Option, None, Some, refl}
 use Rattle.std.specs.Coded.{Coded, code_by, coded×, coded_list, coded_ℕ}
 use Rattle.std.specs.FinMap.{FinMap, code, contains_key, empty, from_entries}
@@ -17,25 +17,25 @@ use Rattle.object_table.specs.Rows.{IsUsed, Rows, TableState, TellSame, count_in
 use Rattle.object_table.specs.Totals.{total_of, used_by}
 use Rattle.object_table.specs.Words.{Words}
 
--- a tenant's sets: the numbers of what it sees, and of what it has staged; and what the first use, and both
+-- the numbers of what a tenant sees and of what it has staged, and the use of the first and of both
 pub record Sets : Type 0 where
   pub visible : Pages
   pub staged : Pages
   pub used : ℕ
   pub total : ℕ
 
--- how an object stands, by whether it is seen and whether it is staged
+-- the standing of an object, by whether it is visible and whether it is staged
 abbrev pub standing_by : Bool → Bool → Option Standing
 standing_by false false = None
 standing_by true false = Some Visible
 standing_by false true = Some Staged
 standing_by true true = Some Both
 
--- the word of a row that stands so
+-- the word of a row, by whether it is visible and whether it is staged
 abbrev pub word_by : Row → Bool → Bool → Option Word
 word_by row seen staged = option_map (λ standing. record { kind = row.kind; length = row.length; standing = standing }) (standing_by seen staged)
 
--- the word of a row, by its number
+-- the word of a row in a tenant's sets
 abbrev pub word_in : Sets → Row → Option Word
 word_in sets row = word_by row (has sets.visible row.number) (has sets.staged row.number)
 
@@ -43,11 +43,11 @@ word_in sets row = word_by row (has sets.visible row.number) (has sets.staged ro
 abbrev pub words_of : Rows → Sets → Words
 words_of rows sets = from_entries {R = name_cmp} (chosen_in (λ _ row. word_in sets row) rows)
 
--- and those of one that may not be there
+-- the words of a tenant that may not exist
 abbrev pub words_under : Rows → Option Sets → Words
 words_under rows sets = option_map_or (words_of rows) sets empty
 
--- those of all tenants
+-- the words of all tenants
 abbrev pub all_words : Rows → FinMap name_cmp Sets → AllWords
 all_words rows tenants = map_values (words_of rows) tenants
 
@@ -55,13 +55,13 @@ all_words rows tenants = map_values (words_of rows) tenants
 abbrev pub holds : Sets → ℕ → Bool
 holds sets n = has sets.visible n || has sets.staged n
 
--- a tenant holds no number but that of a name, and its sums are those of its words
+-- a tenant holds only numbers of names, and its sums are those of its words
 pub record IsOwn (rows : Rows) (sets : Sets) : Type 0 where
   pub within : (n : ℕ) → holds sets n ≡ true → IsUsed rows n
   pub visible : sets.used ≡ used_by (words_of rows sets)
   pub both : sets.total ≡ total_of (words_of rows sets)
 
--- the same, and of each name that the tenant holds it is counted among the holders, which are no more than can be counted
+-- the same; the tenant is counted as a holder of each name that it holds, and no count can overflow
 pub record IsOne (rows : Rows) (sets : Sets) : Type 0 where
   pub own : IsOwn rows sets
   pub some : (q : List ℕ) → one_if (contains_key (words_of rows sets) q) ≤ count_in rows q
@@ -78,7 +78,7 @@ pub record SameSets (old new : Sets) : Type 0 where
   pub used : new.used ≡ old.used
   pub total : new.total ≡ old.total
 
--- one tenant's sets changed, and beside them who holds a name: that is counted, and nothing else changes
+-- one tenant's sets changed, and the counts of holders accordingly; nothing else changed
 pub record Moves (old new : TableState) (own after : Sets) : Type 0 where
   pub told : TellSame old.entries new.entries
   pub places : places_of new ≡ places_of old

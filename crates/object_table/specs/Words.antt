@@ -1,4 +1,4 @@
--- What a ledger says of objects, and what becomes of that as they are staged, published, discarded and kept (own).
+-- What a ledger says about objects, and how staging, publishing, discarding and keeping change it (own).
 use Rattle.std.specs.Prelude.{ℕ, Bool, true, false, Option, None, Some, List, refl, if◌then◌else◌}
 use Rattle.std.specs.Coded.{Coded, code_by, coded×, coded_ℕ, coded_list}
 use Rattle.std.specs.FinMap.{FinMap, get, insert, code}
@@ -16,13 +16,13 @@ use Rattle.object_table.specs.Chosen.{chosen}
 abbrev pub Words : Type 0
 Words = FinMap name_cmp Word
 
--- the tenant sees what stands so
+-- whether the tenant sees an object with this standing
 abbrev pub shows : Standing → Bool
 shows Visible = true
 shows Staged = false
 shows Both = true
 
--- the tenant has staged what stands so
+-- whether the tenant has staged an object with this standing
 abbrev pub waits : Standing → Bool
 waits Visible = false
 waits Staged = true
@@ -34,30 +34,30 @@ is_visible word = shows word.standing
 abbrev pub is_staged : Word → Bool
 is_staged word = waits word.standing
 
--- how an object stands of which a ledger says this
+-- the standing of an object with this word
 abbrev pub standing_of : Option Word → Option Standing
 standing_of word = option_map (λ word. word.standing) word
 
--- the same word of an object that stands otherwise
+-- the word with another standing
 abbrev pub with_standing : Word → Standing → Word
 with_standing word standing = record { kind = word.kind; length = word.length; standing = standing }
 
--- staged beside what it was
+-- the standing of an object that becomes staged
 abbrev pub staged_too : Standing → Standing
 staged_too Visible = Both
 staged_too Staged = Staged
 staged_too Both = Both
 
--- the word of an object that is staged: the one that was there, or else that of the kind and length that come
+-- the word of an object that is staged: the one that was there, or else one of the staged kind and length
 abbrev pub staged_over : Kind → ℕ → Option Word → Word
 staged_over kind length None = record { kind = kind; length = length; standing = Staged }
 staged_over kind length (Some word) = with_standing word (staged_too word.standing)
 
--- a word that stays as this one, or goes
+-- a word if it stays, and else none
 abbrev pub kept_as : Bool → Word → Option Word
 kept_as stays word = if stays then Some word else None
 
--- the word of what is seen, and of nothing else
+-- the word, only visible
 abbrev pub seen_word : Word → Word
 seen_word word = with_standing word Visible
 
@@ -65,7 +65,7 @@ seen_word word = with_standing word Visible
 abbrev pub unstaged_word : Word → Option Word
 unstaged_word word = kept_as (is_visible word) (seen_word word)
 
--- how it stands with the tenant what it sees no more, unless that is kept; what is staged stays
+-- the standing of an object that is no longer visible unless it is kept; what is staged stays
 abbrev pub kept_standing : Bool → Standing → Option Standing
 kept_standing kept Visible = if kept then Some Visible else None
 kept_standing kept Staged = Some Staged
@@ -82,7 +82,7 @@ words_that p words = chosen (λ _ word. kept_as (p word) word) words
 abbrev pub staged_words : List ℕ → Kind → ℕ → Words → Words
 staged_words name kind length words = insert words name (staged_over kind length (get words name))
 
--- with what is staged visible
+-- with everything staged made visible
 abbrev pub published_words : Words → Words
 published_words words = chosen (λ _ word. Some (seen_word word)) words
 
@@ -90,7 +90,7 @@ published_words words = chosen (λ _ word. Some (seen_word word)) words
 abbrev pub discarded_words : Words → Words
 discarded_words words = chosen (λ _ word. unstaged_word word) words
 
--- of what is visible only what names pass; what is staged stays
+-- without the visible objects whose names do not pass; what is staged stays
 abbrev pub kept_words : (List ℕ → Bool) → Words → Words
 kept_words keep words = chosen (λ name word. kept_word (keep name) word) words
 

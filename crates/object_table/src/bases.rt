@@ -1,4 +1,4 @@
-// Best common ancestors, by the numbers of their names.
+// Finds best common ancestors by the numbers of names.
 ghost use Rattle.std.specs.Prelude.{◌≡◌, [], ◌∷◌, ℕ, List, IfOk, IfSome, true};
 ghost use Rattle.std.specs.FinMap.{contains_key};
 ghost use Rattle.std.specs.HashSet.{contains};
@@ -16,8 +16,8 @@ use indexmap::IndexSet;
 use number_links::Graph;
 use std::alloc::{AllocError, Global};
 
-// The names of the best common ancestors of two commits among what is seen; `None` if the parents of one of their
-// ancestors are not known.
+// The names of the best common ancestors of two commits among visible objects, or `None` if the parents of one of
+// their ancestors are not known.
 pub(crate) fn base_names(
     alloc: Global,
     table: &Table,

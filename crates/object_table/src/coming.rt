@@ -1,4 +1,4 @@
-// What a ledger adopts of another one. A tenant that does not exist has no words.
+// What a ledger adopts from another one. A tenant that does not exist has no words.
 ghost use Rattle.std.specs.Prelude.{◌≡◌, ◌+◌, false, ℕ, IfOk, sum_by};
 ghost use Rattle.std.specs.FinMap.{get};
 ghost use Rattle.std.specs.Option.{option_copied, option_map_or};
@@ -16,7 +16,7 @@ use git_name::{Hashing, Name};
 use indexmap::IndexSet;
 use std::alloc::{AllocError, Global};
 
-// The word of a name.
+// The word of a name in a ledger.
 pub(crate) fn word_under(table: &Table, ledger: Option<&Ledger>, name: Name) -> Option<Word>
     ensures { result ≡ get (words_under table.now.entries (option_copied ledger.entry)) name }
 {
@@ -30,7 +30,7 @@ pub(crate) fn word_under(table: &Table, ledger: Option<&Ledger>, name: Name) -> 
     word_of(ledger, row)
 }
 
-// Whether a word says that its object is seen.
+// Whether a word says that its object is visible.
 fn is_seen(word: Option<Word>) -> bool
     ensures { result ≡ option_map_or is_visible word false }
 {
@@ -40,7 +40,7 @@ fn is_seen(word: Option<Word>) -> bool
     }
 }
 
-// The entry of an object that the other ledger sees and this one does not.
+// The entry of an object that is visible in the other ledger and not in this one.
 fn coming_at(name: Name, shown: Option<Word>, own: Option<Word>) -> Option<Entry>
     ensures { result ≡ coming_at name shown own }
 {
@@ -57,7 +57,7 @@ fn coming_at(name: Name, shown: Option<Word>, own: Option<Word>) -> Option<Entry
     None
 }
 
-// The entries of what is adopted of these names.
+// The entries of those of these names that are adopted.
 pub(crate) fn coming(
     alloc: Global,
     table: &Table,
@@ -78,7 +78,7 @@ pub(crate) fn coming(
     Ok(entries)
 }
 
-// The use of an object, if it is adopted.
+// The bytes of use that an object adds, or 0 if it is not adopted.
 fn coming_size(name: Name, shown: Option<Word>, own: Option<Word>) -> u128
     ensures { result ≡ option_map_or use_of_entry (coming_at name shown own) 0 }
 {
@@ -88,7 +88,7 @@ fn coming_size(name: Name, shown: Option<Word>, own: Option<Word>) -> u128
     size_of(entry.length)
 }
 
-// A total, plus the use of the objects of these names that are adopted.
+// A total of use, plus the use of those of these objects that are adopted.
 pub(crate) fn use_with_coming(
     table: &Table,
     shown: Option<&Ledger>,

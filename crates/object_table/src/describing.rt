@@ -1,4 +1,4 @@
-// Writes the rows of names that nobody holds for what is to be staged.
+// Gives the rows of names that nobody holds the kinds and lengths of objects to stage.
 ghost use Rattle.std.specs.Prelude.{◌≡◌, ◌⊎◌, ℕ, List, true, false, Some};
 ghost use Rattle.std.specs.List.{All};
 ghost use Rattle.git_name.specs.Same.{same_name};
@@ -30,7 +30,7 @@ fn has_row(table: &Table, entry: Entry) -> bool
     is_as(&row, entry)
 }
 
-// Gives the row of an entry's name the entry's kind and length, if nobody holds the name.
+// Gives the row of an entry's name the entry's kind and length if nobody holds the name.
 fn describe(table: &mut Table, entry: Entry)
     ensures places { places_of table.new ≡ places_of table.old }
     ensures describes { DescribesUnheld table.old.entries table.new.entries }
@@ -51,7 +51,7 @@ fn describe(table: &mut Table, entry: Entry)
     });
 }
 
-// The same for entries. Returns whether the rows of all of them have their kinds and lengths.
+// Does the same for each entry. Returns whether every entry's row then has its kind and length.
 pub(crate) fn describe_all(table: &mut Table, entries: &[Entry]) -> bool
     requires listed { AreListed (places_of table.old) entries.now }
     ensures places { places_of table.new ≡ places_of table.old }

@@ -3,14 +3,14 @@ ghost use Rattle.object_table.specs.Told.{entry_of};
 
 use git_name::{Kind, Name, Sealed};
 
-/// What a ledger needs to know of an object to stage it.
+/// What a ledger needs to know about an object to stage it.
 #[derive(Clone, Copy, Debug)]
 pub struct Entry {
     /// The object's name.
     pub name: Name,
     /// Its kind.
     pub kind: Kind,
-    /// The length of its content.
+    /// The length of its content, in bytes.
     pub length: u64,
 }
 

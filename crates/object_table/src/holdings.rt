@@ -39,8 +39,8 @@ use number_links::Graph;
 use std::alloc::{AllocError, Global};
 use std::marker::Model;
 
-/// The ledgers of all tenants over one table of names, and the links of objects, as far as they are known. The number
-/// of holders of a name is the number of ledgers that have a word of it.
+/// The ledgers of all tenants over one table of names, and the known links of objects. A name's count of holders is
+/// the number of ledgers that have a word for it.
 #[derive(Drop)]
 pub struct Holdings {
     table: Table,
@@ -67,7 +67,7 @@ impl Model for Holdings {
 }
 
 impl Holdings {
-    /// Without tenants, and with these names in their order, which nobody holds.
+    /// Holdings without tenants. The catalogue has these names, in this order, and nobody holds them.
     pub fn over(alloc: Global, hashing: Hashing, names: &[Name]) -> Result<Holdings, AllocError>
         ensures ledgers { IfOk result (λ h. h.ledgers ≡ map.empty) }
         ensures listed { IfOk result (λ h. (q : List ℕ) → is_listed (places_of h.catalogue).names q ≡ is_listed names.now q) }
@@ -86,7 +86,7 @@ impl Holdings {
         Ok(holdings)
     }
 
-    /// How to hash names of objects.
+    /// The hashing of object names.
     pub fn hashing(&self) -> Hashing {
         self.table.hashing()
     }
@@ -111,7 +111,7 @@ impl Holdings {
         true
     }
 
-    /// What a tenant's ledger says of a name.
+    /// What a tenant's ledger says about a name.
     pub fn word(&self, tenant: &TenantName, name: Name) -> Option<Word>
         ensures { result ≡ word_at self.now.ledgers tenant.now name }
     {
@@ -138,29 +138,29 @@ impl Holdings {
         word.is_staged()
     }
 
-    /// The names of what a tenant sees, ascending.
+    /// The names of the objects that a tenant sees, in ascending order.
     pub fn names(&self, alloc: Global, tenant: &TenantName) -> Result<Vec<Name>, AllocError>
         ensures { IfOk result (λ names. names.items ≡ map.keys (words_that is_visible (ledger_at self.now.ledgers tenant.now))) }
     {
         names_in(alloc, &self.table, &self.ledgers, tenant)
     }
 
-    /// How many objects a tenant sees, in time linear in their number.
+    /// How many objects a tenant sees. Takes time linear in their number.
     pub fn seen_count(&self, tenant: &TenantName) -> usize
         ensures { result ≡ map.len (words_that is_visible (ledger_at self.now.ledgers tenant.now)) }
     {
         seen_count_in(&self.table, &self.ledgers, tenant)
     }
 
-    /// The use of the objects that a tenant sees, in constant time after the tenant is looked up.
+    /// The use of the objects that a tenant sees, in bytes. Takes constant time once the tenant is looked up.
     pub fn used(&self, tenant: &TenantName) -> u128
         ensures { result ≡ capped (used_by (ledger_at self.now.ledgers tenant.now)) }
     {
         used_in(&self.table, &self.ledgers, tenant)
     }
 
-    /// Whether the use of what a tenant sees and has staged is at most this, in constant time after the tenant is looked
-    /// up.
+    /// Whether the use of what a tenant sees and has staged is at most `limit` bytes. Takes constant time once the
+    /// tenant is looked up.
     pub fn is_within(&self, tenant: &TenantName, limit: u64) -> bool
         ensures { result ≡ nat_le (total_of (ledger_at self.now.ledgers tenant.now)) limit }
     {
@@ -177,8 +177,8 @@ impl Holdings {
         row.holders > 0
     }
 
-    /// Whether an object of this name, kind and length may be staged: whatever any ledger says of the name has this kind
-    /// and length.
+    /// Whether an object of this name, kind and length may be staged. It may not if a tenant holds the name with
+    /// another kind or length.
     pub fn may_stage(&self, name: Name, kind: Kind, length: u64) -> bool
         ensures may { result ≡ true → AreAs self.now.ledgers name kind length }
         ensures clash { result ≡ false → AreAs self.now.ledgers name kind length → ⊥ }
@@ -193,8 +193,8 @@ impl Holdings {
         is_as(&row, Entry { name, kind, length })
     }
 
-    /// Whether the use of what a tenant sees, together with the objects of these names that another one sees, is at most
-    /// this, in time linear in the names.
+    /// Whether the use of what tenant `to` sees, together with the objects with these names that tenant `from` sees,
+    /// is at most `limit` bytes. Takes time linear in the names.
     pub fn has_room(
         &self,
         to: &TenantName,
@@ -211,7 +211,8 @@ impl Holdings {
         use_with_coming(&self.table, shown, own, names, used) <= limit as u128
     }
 
-    /// A tenant comes to see the objects of these names that another one sees, all or none, in time linear in the names.
+    /// Makes the objects with these names that tenant `from` sees visible to tenant `to`. On an `Err` none becomes
+    /// visible. Takes time linear in the names.
     pub fn adopt(
         &mut self,
         alloc: Global,
@@ -235,7 +236,7 @@ impl Holdings {
         seen
     }
 
-    /// Stages the objects of these entries for a tenant, in order, all or none. Their names are in the catalogue.
+    /// Stages these objects for a tenant, in order. On an `Err` none is staged.
     pub fn stage_all(&mut self, tenant: &TenantName, entries: &[Entry]) -> Result<(), StageFault>
         requires listed { AreListed (places_of self.old.catalogue) entries.now }
         ensures ok { OnOk result (self.new.ledgers ≡ at_ledger self.old.ledgers tenant.now (all_staged_words entries.now)) }
@@ -250,7 +251,7 @@ impl Holdings {
         staged
     }
 
-    /// The same for one object.
+    /// Stages one object for a tenant.
     pub fn stage(
         &mut self,
         tenant: &TenantName,
@@ -270,7 +271,7 @@ impl Holdings {
         self.stage_all(tenant, entries.as_slice())
     }
 
-    /// The tenant sees what it has staged. It allocates nothing.
+    /// Makes what the tenant has staged visible to it. Allocates nothing.
     pub fn publish(&mut self, tenant: &TenantName)
         ensures ledgers { self.new.ledgers ≡ at_ledger self.old.ledgers tenant.now published_words }
         ensures catalogue { self.new.catalogue ≡ self.old.catalogue }
@@ -279,7 +280,7 @@ impl Holdings {
         self.ledgers.publish(&self.table, tenant);
     }
 
-    /// The tenant has staged nothing. It allocates nothing.
+    /// Drops what the tenant has staged. Allocates nothing.
     pub fn discard(&mut self, tenant: &TenantName)
         ensures ledgers { self.new.ledgers ≡ at_ledger self.old.ledgers tenant.now discarded_words }
         ensures places { places_of self.new.catalogue ≡ places_of self.old.catalogue }
@@ -290,7 +291,7 @@ impl Holdings {
         self.table.invariant();
     }
 
-    /// Of what a tenant sees, only the objects of these names stay. It allocates nothing.
+    /// Drops the objects that the tenant sees, except those with these names. Allocates nothing.
     pub fn keep_only<N: NameSet>(&mut self, tenant: &TenantName, names: &N)
         ensures ledgers { self.new.ledgers ≡ at_ledger self.old.ledgers tenant.now (kept_words (N.names names.now)) }
         ensures places { places_of self.new.catalogue ≡ places_of self.old.catalogue }
@@ -301,7 +302,7 @@ impl Holdings {
         self.table.invariant();
     }
 
-    /// Adds a name to the catalogue, unless it is there.
+    /// Adds a name to the catalogue, unless it is already there.
     pub fn enter(&mut self, name: Name) -> Result<(), AllocError>
         ensures listed { OnOk result ((q : List ℕ) → is_listed (places_of self.new.catalogue).names q ≡ (same_name name q || is_listed (places_of self.old.catalogue).names q)) }
         ensures grows { GrowsAmong (name ∷ []) (places_of self.old.catalogue) (places_of self.new.catalogue) }
@@ -312,8 +313,9 @@ impl Holdings {
         enter_in(&mut self.table, &self.ledgers, &self.links, name)
     }
 
-    /// Learns the links and the time of the object of a name, if it and all these names are in the catalogue. If there is no
-    /// memory, they stay unknown. The time of a commit is the seconds since 1970 plus 1, and of any other object 0.
+    /// Learns the links and the time of the object of a name, if the name and all the linked names are in the
+    /// catalogue. If memory runs out, they stay unknown. The time of a commit is its seconds since 1970 plus 1. The
+    /// time of any other object is 0.
     pub fn learn(&mut self, alloc: Global, name: Name, to: &[Name], time: u64)
         ensures ledgers { self.new.ledgers ≡ self.old.ledgers }
         ensures catalogue { self.new.catalogue ≡ self.old.catalogue }
@@ -336,7 +338,7 @@ impl Holdings {
         );
     }
 
-    /// Forgets the links of the object of a name.
+    /// Forgets the links of the object of a name, and of the objects that link to it.
     pub fn forget(&mut self, name: Name)
         ensures ledgers { self.new.ledgers ≡ self.old.ledgers }
         ensures catalogue { self.new.catalogue ≡ self.old.catalogue }
@@ -353,8 +355,8 @@ impl Holdings {
         self.time(name).is_some()
     }
 
-    /// The names of what a tenant sees that the wanted ones reach and the excluded ones do not; `None` if the links of an
-    /// object on the way are not known.
+    /// The names of the objects that the tenant sees and that are reachable from `wanted` but not from `excluded`, or
+    /// `None` if the links of an object on the way are not known.
     pub fn between(
         &self,
         alloc: Global,
@@ -372,7 +374,7 @@ impl Holdings {
         names_between(alloc, &self.table, &self.links, own, wanted, excluded)
     }
 
-    /// The same by parents of commits alone.
+    /// The same, following only the parents of commits.
     pub fn history(
         &self,
         alloc: Global,
@@ -390,8 +392,8 @@ impl Holdings {
         names_in_history(alloc, &self.table, &self.links, own, wanted, excluded)
     }
 
-    /// The names of the best common ancestors of two commits among what a tenant sees; `None` if the parents of one of their
-    /// ancestors are not known.
+    /// The names of the best common ancestors of two commits among the objects that a tenant sees, or `None` if the
+    /// parents of one of their ancestors are not known.
     pub fn bases(
         &mut self,
         alloc: Global,
@@ -410,8 +412,8 @@ impl Holdings {
         base_names(alloc, &self.table, &mut self.links, own, a, b)
     }
 
-    /// The time of the object of a name, if its links are known: of a commit the seconds since 1970 plus 1, and of any
-    /// other object 0.
+    /// The time of the object of a name, if its links are known. For a commit it is its seconds since 1970 plus 1,
+    /// and for any other object 0.
     pub fn time(&self, name: Name) -> Option<u64>
         ensures { result ≡ option_map (λ one. one.time) (map.get self.now.links name) }
     {
@@ -422,8 +424,8 @@ impl Holdings {
         self.links.time(row.number)
     }
 
-    /// Keeps the sets of all that these names reach, so that they need not be walked again, if the tenant sees all of it and
-    /// the links are known. An object in them that has no links is known to have none from then on.
+    /// Keeps the sets of all objects reachable from these names, so that they need not be walked again. A set is kept
+    /// only if the tenant sees all of it and its links are known. A blob in it is then known to have no links.
     pub fn keep_reached(&mut self, alloc: Global, tenant: &TenantName, names: &[Name])
         ensures ledgers { self.new.ledgers ≡ self.old.ledgers }
         ensures catalogue { self.new.catalogue ≡ self.old.catalogue }
@@ -435,14 +437,14 @@ impl Holdings {
         keep_names(alloc, &self.table, &mut self.links, own, names);
     }
 
-    /// How many names the catalogue has.
+    /// The number of names in the catalogue.
     pub fn len(&self) -> usize
         ensures { result ≡ length (places_of self.now.catalogue).names }
     {
         self.table.len()
     }
 
-    /// The name at the place of the next look, if nobody holds it.
+    /// The name at the place that the sweep looks at next, if nobody holds it.
     pub fn free_name(&self) -> Option<Name>
         ensures some { IfSome result (λ name. LooksNextAt (places_of self.now.catalogue) name × (holders_of self.now.ledgers name ≡ 0)) }
         ensures none { IfNone result (((places_of self.now.catalogue).names ≡ []) ⊎ ((name : List ℕ) × LooksNextAt (places_of self.now.catalogue) name × (0 < holders_of self.now.ledgers name))) }
@@ -450,7 +452,7 @@ impl Holdings {
         self.table.free_name()
     }
 
-    /// The name at a place of the catalogue, if a tenant holds it. Each name is at one place.
+    /// The name at a place of the catalogue, if a tenant holds it.
     pub fn held_name(&self, at: usize) -> Option<Name>
         ensures some { IfSome result (λ name. (slice_get (places_of self.now.catalogue).names at ≡ Some name) × (is_held_in self.now.ledgers name ≡ true)) }
         ensures first { IfSome result (λ name. is_listed (take at (places_of self.now.catalogue).names) name ≡ false) }
@@ -473,14 +475,14 @@ impl Holdings {
         self.table.invariant();
     }
 
-    /// A law, with no code to run: all that ledgers say of one name has one kind and length.
+    /// A law, with no code to run: all ledgers agree on the kind and the length of a name.
     pub fn words_are_alike(&self)
         ensures { AllAlike self.now.ledgers }
     {
         self.table.invariant();
     }
 
-    /// Skips the name at the place of the next look.
+    /// Moves the sweep on to the next place.
     pub fn pass(&mut self)
         requires { 0 < length (places_of self.old.catalogue).names }
         ensures ledgers { self.new.ledgers ≡ self.old.ledgers }
@@ -491,7 +493,7 @@ impl Holdings {
         self.table.pass();
     }
 
-    /// Removes the name at the place of the next look from the catalogue. Nobody may hold it.
+    /// Removes the name that the sweep looks at from the catalogue. Nobody may hold it.
     pub fn leave(&mut self, name: Name)
         requires next { LooksNextAt (places_of self.old.catalogue) name }
         requires free { holders_of self.old.ledgers name ≡ 0 }
@@ -506,7 +508,7 @@ impl Holdings {
         leave_in(&mut self.table, &self.ledgers, &mut self.links, name);
     }
 
-    /// Sets the place of the next look to the beginning.
+    /// Moves the sweep back to the first place.
     pub fn restart(&mut self)
         ensures ledgers { self.new.ledgers ≡ self.old.ledgers }
         ensures places { places_of self.new.catalogue ≡ at_start (places_of self.old.catalogue) }
@@ -515,7 +517,7 @@ impl Holdings {
         self.table.restart();
     }
 
-    /// The place of the next look.
+    /// The place that the sweep looks at next. It may be the length of the catalogue, which means the first place.
     pub fn place(&self) -> usize
         ensures place { result ≡ (places_of self.now.catalogue).place }
         ensures within { result ≤ length (places_of self.now.catalogue).names }
@@ -524,7 +526,7 @@ impl Holdings {
     }
 }
 
-// The same by numbers.
+// Forgets the links of the object of a name, and of the objects that link to it.
 fn forget_in(table: &Table, links: &mut Graph, name: Name)
     requires linked { AreLinks table.now.entries links.old }
     ensures linked { AreLinks table.now.entries links.new }
@@ -538,7 +540,7 @@ fn forget_in(table: &Table, links: &mut Graph, name: Name)
     let _all = links.renew(row.number);
 }
 
-// Learns the links of the object of a row, by their numbers.
+// Learns the links of the object of a row, given as numbers.
 fn learn_row(table: &Table, links: &mut Graph, name: Name, row: Row, to: &[u32], time: u64)
     requires linked { AreLinks table.now.entries links.old }
     requires here { row_in table.now.entries name ≡ Some row }
@@ -598,7 +600,7 @@ fn is_within_in(table: &Table, ledgers: &Ledgers, tenant: &TenantName, limit: u6
     ledger.total() <= limit as u128
 }
 
-// Adds a name. If it is new, nobody holds it.
+// Adds a name. Nobody holds a new name.
 fn enter_in(
     table: &mut Table,
     ledgers: &Ledgers,
@@ -621,7 +623,7 @@ fn enter_in(
     entered
 }
 
-// Forgets the links of a name's number, and of those that link to it.
+// Forgets the links of a name, and of the names that link to it.
 fn renew(table: &Table, links: &mut Graph, name: Name)
     ensures { (row : Row) → row_in table.now.entries name ≡ Some row → (n : ℕ) (one : Learned ℕ) → learned links.new n ≡ Some one → (learned links.old n ≡ Some one) × (n ≢ row.number) × (Contains one.links row.number → ⊥) }
 {
@@ -653,7 +655,7 @@ fn leave_in(table: &mut Table, ledgers: &Ledgers, links: &mut Graph, name: Name)
     table.invariant();
 }
 
-// Writes the rows of names that nobody holds for what is staged, and then stages all or none.
+// Gives the rows of names that nobody holds the kinds and lengths to stage. Then stages all objects or none.
 fn stage_in(
     table: &mut Table,
     ledgers: &mut Ledgers,

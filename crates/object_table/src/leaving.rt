@@ -1,4 +1,4 @@
-// Takes objects from what one tenant sees or has staged. It allocates nothing.
+// Removes objects from what one tenant sees or has staged. Allocates nothing.
 ghost use Rattle.std.specs.Prelude.{◌≡◌, true, ℕ};
 ghost use Rattle.object_table.specs.Views.{IsOne, Moves, words_of};
 ghost use Rattle.object_table.specs.Words.{discarded_words, kept_words};
@@ -9,7 +9,7 @@ use crate::settling::settle;
 use crate::table::Table;
 use nearby::Nearby;
 
-// Takes away all that is staged.
+// Drops everything that is staged.
 pub(crate) fn discard(table: &mut Table, own: &mut Ledger)
     requires one { IsOne table.old.entries own.old }
     ensures words { words_of table.new.entries own.new ≡ discarded_words (words_of table.old.entries own.old) }
@@ -31,7 +31,7 @@ pub(crate) fn discard(table: &mut Table, own: &mut Ledger)
     own.end_staging();
 }
 
-// Of what is seen, only these names stay.
+// Drops the visible objects whose names are not in the set.
 pub(crate) fn keep_only<N: NameSet>(table: &mut Table, own: &mut Ledger, names: &N)
     requires one { IsOne table.old.entries own.old }
     ensures words { words_of table.new.entries own.new ≡ kept_words (N.names names.now) (words_of table.old.entries own.old) }

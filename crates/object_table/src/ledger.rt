@@ -7,8 +7,8 @@ use number_sets::NumberSet;
 use std::alloc::{AllocError, Global};
 use std::marker::Model;
 
-/// The numbers of what a tenant sees and of what it has staged, the use of the objects that it sees, and the use of all
-/// of them.
+/// The numbers of the objects that a tenant sees and of those that it has staged, the use of the first, and the use
+/// of both, in bytes.
 #[derive(Drop)]
 pub(crate) struct Ledger {
     visible: NumberSet,
@@ -46,35 +46,35 @@ impl Ledger {
         }
     }
 
-    /// Whether the tenant sees a number.
+    /// Whether the tenant sees the object of a number.
     pub(crate) fn sees(&self, n: u32) -> bool
         ensures { result ≡ has self.now.visible n }
     {
         self.visible.contains(n)
     }
 
-    /// The numbers of what the tenant sees.
+    /// The numbers of the objects that the tenant sees.
     pub(crate) fn visible(&self) -> &NumberSet
         ensures { result.now ≡ self.now.visible }
     {
         &self.visible
     }
 
-    /// Whether the tenant has staged a number.
+    /// Whether the tenant has staged the object of a number.
     pub(crate) fn has_staged(&self, n: u32) -> bool
         ensures { result ≡ has self.now.staged n }
     {
         self.staged.contains(n)
     }
 
-    /// Whether the tenant sees a number, or has staged it.
+    /// Whether the tenant sees the object of a number or has staged it.
     pub(crate) fn holds(&self, n: u32) -> bool
         ensures { result ≡ holds self.now n }
     {
         self.visible.contains(n) || self.staged.contains(n)
     }
 
-    /// The smallest number that the tenant sees and that is at least this one.
+    /// The smallest visible number that is at least `from`.
     pub(crate) fn next_seen(&self, from: u32) -> Option<u32>
         ensures some { IfSome result (λ n. (from ≤ n) × (has self.now.visible n ≡ true)) }
         ensures first { IfSome result (λ n. (q : ℕ) → from ≤ q → q < n → has self.now.visible q ≡ false) }
@@ -83,7 +83,7 @@ impl Ledger {
         self.visible.next(from)
     }
 
-    /// The smallest number that the tenant has staged and that is at least this one.
+    /// The smallest staged number that is at least `from`.
     pub(crate) fn next_staged(&self, from: u32) -> Option<u32>
         ensures some { IfSome result (λ n. (from ≤ n) × (has self.now.staged n ≡ true)) }
         ensures first { IfSome result (λ n. (q : ℕ) → from ≤ q → q < n → has self.now.staged q ≡ false) }
@@ -92,21 +92,21 @@ impl Ledger {
         self.staged.next(from)
     }
 
-    /// The use of the objects that the tenant sees.
+    /// The use of the objects that the tenant sees, in bytes.
     pub(crate) fn used(&self) -> u128
         ensures { result ≡ self.now.used }
     {
         self.used
     }
 
-    /// The use of all of them.
+    /// The use of the objects that the tenant sees or has staged, in bytes.
     pub(crate) fn total(&self) -> u128
         ensures { result ≡ self.now.total }
     {
         self.total
     }
 
-    /// Reserves room for a number to be seen and staged. The tenant's objects stay as they are.
+    /// Reserves room for a number in both sets. The tenant's objects stay as they are.
     pub(crate) fn reserve(&mut self, n: u32) -> Result<(), AllocError>
         ensures visible { (q : ℕ) → has self.new.visible q ≡ has self.old.visible q }
         ensures staged { (q : ℕ) → has self.new.staged q ≡ has self.old.staged q }
@@ -120,7 +120,8 @@ impl Ledger {
         self.staged.reserve(n)
     }
 
-    /// Sets how the object of this number and this use stands with the tenant. It allocates nothing.
+    /// Sets whether the tenant sees the object of a number, and whether it has staged it. `size` is the object's use.
+    /// Allocates nothing.
     pub(crate) fn mark(&mut self, n: u32, size: u128, visible: bool, staged: bool)
         requires visible { visible ≡ true → has_room self.old.visible n ≡ true }
         requires staged { staged ≡ true → has_room self.old.staged n ≡ true }
@@ -143,7 +144,7 @@ impl Ledger {
         set(&mut self.staged, n, staged);
     }
 
-    /// The tenant sees what is staged. It allocates nothing.
+    /// Makes what is staged visible. Allocates nothing.
     pub(crate) fn publish(&mut self)
         ensures visible { (q : ℕ) → has self.new.visible q ≡ (has self.old.visible q || has self.old.staged q) }
         ensures staged { (q : ℕ) → has self.new.staged q ≡ false }
@@ -155,7 +156,7 @@ impl Ledger {
         self.used = self.total;
     }
 
-    /// Frees the room for staged numbers, if none is staged.
+    /// Frees the room for staged numbers. No number may be staged.
     pub(crate) fn end_staging(&mut self)
         requires { (q : ℕ) → has self.old.staged q ≡ false }
         ensures visible { self.new.visible ≡ self.old.visible }
@@ -180,7 +181,7 @@ fn set(numbers: &mut NumberSet, n: u32, is_in: bool)
     }
 }
 
-// A sum, after something that counted in it or not now counts or not.
+// Updates a sum of use for one object: `was` says whether the object counted, and `is` whether it counts now.
 fn moved(sum: u128, size: u128, was: bool, is: bool) -> u128
     requires within { (if was then size else 0) ≤ sum }
     requires fits { sum + (if is then size else 0) < 2 ^ 128 + (if was then size else 0) }
@@ -192,7 +193,7 @@ fn moved(sum: u128, size: u128, was: bool, is: bool) -> u128
     if was { sum - size } else { sum + size }
 }
 
-/// The use of an object of this length.
+/// The use of an object with this length of content, in bytes.
 pub(crate) fn size_of(length: u64) -> u128
     ensures { result ≡ length + OBJECT_USE }
 {

@@ -44,7 +44,7 @@ impl Model for Ledgers {
 }
 
 impl Ledgers {
-    /// Without tenants.
+    /// No tenants.
     pub(crate) fn new(alloc: Global) -> Ledgers
         ensures { result ≡ map.empty }
     {
@@ -53,7 +53,7 @@ impl Ledgers {
         }
     }
 
-    /// How many tenants there are.
+    /// The number of tenants.
     pub(crate) fn len(&self) -> usize
         ensures { result ≡ map.len self.now }
     {
@@ -67,7 +67,7 @@ impl Ledgers {
         self.tenants.get(tenant)
     }
 
-    /// Adds a tenant whose ledger has no words, unless it exists.
+    /// Adds a tenant with an empty ledger, unless the tenant exists.
     pub(crate) fn add(
         &mut self,
         alloc: Global,
@@ -89,7 +89,7 @@ impl Ledgers {
         }
     }
 
-    /// Stages the objects of these entries for a tenant, in order, all or none.
+    /// Stages these objects for a tenant, in order. On an `Err` none is staged.
     pub(crate) fn stage(
         &mut self,
         table: &mut Table,
@@ -115,7 +115,7 @@ impl Ledgers {
         Ok(())
     }
 
-    /// A tenant comes to see the objects of these entries, all or none.
+    /// Makes these objects visible to a tenant. On an `Err` none becomes visible.
     pub(crate) fn see(
         &mut self,
         table: &mut Table,
@@ -141,7 +141,7 @@ impl Ledgers {
         Ok(())
     }
 
-    /// The tenant sees what it has staged. It allocates nothing.
+    /// Makes what the tenant has staged visible to it. Allocates nothing.
     pub(crate) fn publish(&mut self, table: &Table, tenant: &TenantName)
         requires held { AreHeld table.now.entries self.old }
         ensures held { AreHeld table.now.entries self.new }
@@ -155,7 +155,7 @@ impl Ledgers {
         own.publish();
     }
 
-    /// The tenant has staged nothing. It allocates nothing.
+    /// Drops what the tenant has staged. Allocates nothing.
     pub(crate) fn discard(&mut self, table: &mut Table, tenant: &TenantName)
         requires held { AreHeld table.old.entries self.old }
         ensures held { AreHeld table.new.entries self.new }
@@ -171,7 +171,7 @@ impl Ledgers {
         discard(table, own);
     }
 
-    /// Of what a tenant sees, only the objects of these names stay. It allocates nothing.
+    /// Drops the objects that the tenant sees, except those with these names. Allocates nothing.
     pub(crate) fn keep_only<N: NameSet>(
         &mut self,
         table: &mut Table,

@@ -1,7 +1,6 @@
-//! One table of objects. Each name that is stored or held has a row with a fixed number, and what a tenant sees and has
-//! staged are two sets of these numbers.
-//! The number of holders of a name is the number of ledgers that have a word of it. Contracts see names, words and
-//! places, and no numbers.
+//! One table of objects for all tenants. Each stored or held name has a row with a fixed number. What a tenant sees
+//! and what it has staged are two sets of these numbers. A name's count of holders is the number of ledgers that have
+//! a word for it. Contracts speak of names, words and places, and of no numbers.
 #![tactic(auto)]
 
 mod bases;

@@ -1,4 +1,4 @@
-// The links of objects, by the numbers of their names.
+// Links between objects, by the numbers of their names.
 ghost use Rattle.std.specs.Prelude.{◌≡◌, ◌⊎◌, ℕ, List, [], Contains, Some, IfOk, IfSome, OnOk, false, is_some, map as mapped, true};
 ghost use Rattle.std.specs.FinMap.{contains_key, get};
 ghost use Rattle.std.specs.HashSet.{contains};
@@ -45,7 +45,7 @@ impl Resting for Table {
     }
 }
 
-// The numbers of these names, in their order, if each has one.
+// The numbers of these names, in the same order, or `None` if a name has no number.
 pub(crate) fn numbers_of(
     alloc: Global,
     table: &Table,
@@ -65,7 +65,7 @@ pub(crate) fn numbers_of(
     Ok(Some(numbers))
 }
 
-// Appends the number of a name, if it has one.
+// Appends the number of a name if it has one.
 fn put_number(table: &Table, name: Name, numbers: &mut Vec<u32>) -> Result<(), AllocError>
     ensures only { OnOk result ((n : ℕ) → Contains numbers.new.items n → Contains numbers.old.items n ⊎ (IsUsed table.now.entries n × (numbered_name table.now.entries n ≡ name))) }
     ensures kept { OnOk result ((n : ℕ) → Contains numbers.old.items n → Contains numbers.new.items n) }
@@ -79,7 +79,7 @@ fn put_number(table: &Table, name: Name, numbers: &mut Vec<u32>) -> Result<(), A
     Ok(())
 }
 
-// The numbers of those of these names that have one.
+// The numbers of these names. Names without a number are skipped.
 fn numbers_there(alloc: Global, table: &Table, names: &[Name]) -> Result<Vec<u32>, AllocError>
     ensures only { IfOk result (λ numbers. (n : ℕ) → Contains numbers.items n → IsUsed table.now.entries n × Contains names.now (numbered_name table.now.entries n)) }
     ensures all { IfOk result (λ numbers. (name : List ℕ) (row : Row) → Contains names.now name → row_in table.now.entries name ≡ Some row → Contains numbers.items row.number) }
@@ -113,8 +113,8 @@ pub(crate) fn names_of(
     Ok(names)
 }
 
-// The names of what is seen that the wanted ones reach and the excluded ones do not; `None` if the links of an object on
-// the way are not known.
+// The names of the visible objects that are reachable from `wanted` but not from `excluded`, or `None` if the links
+// of an object on the way are not known.
 pub(crate) fn names_between(
     alloc: Global,
     table: &Table,
@@ -146,7 +146,7 @@ pub(crate) fn names_between(
     Ok(Some(names))
 }
 
-// The same by parents of commits alone.
+// The same, following only the parents of commits.
 pub(crate) fn names_in_history(
     alloc: Global,
     table: &Table,
@@ -178,8 +178,8 @@ pub(crate) fn names_in_history(
     Ok(Some(names))
 }
 
-// Keeps the sets of all that these names reach, so that they need not be walked again, if all of it is seen and the links
-// are known. An object in them that has no links is known to have none from then on.
+// Keeps the sets of all objects reachable from these names, so that they need not be walked again. A set is kept only
+// if all of it is visible and its links are known. A blob in it is then known to have no links.
 pub(crate) fn keep_names(
     alloc: Global,
     table: &Table,

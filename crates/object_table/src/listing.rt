@@ -1,4 +1,4 @@
-// The names of what a tenant sees, and their number.
+// Lists and counts the objects that a tenant sees.
 ghost use Rattle.std.specs.Prelude.{◌≡◌, IfOk, ℕ, List, false};
 ghost use Rattle.std.specs.FinMap.{contains_key, keys, len};
 ghost use Rattle.std.specs.List.{IsDistinct};
@@ -11,7 +11,7 @@ use crate::table::Table;
 use git_name::Name;
 use std::alloc::{AllocError, Global};
 
-// The names of what is seen, by number.
+// The names of the visible objects, in the order of their numbers.
 fn seen_among(alloc: Global, table: &Table, own: &Ledger) -> Result<Vec<Name>, AllocError>
     requires own { IsOwn table.now.entries own.now }
     ensures listed { IfOk result (λ names. (q : List ℕ) → is_listed names.items q ≡ contains_key (words_that is_visible (words_of table.now.entries own.now)) q) }
@@ -30,7 +30,7 @@ fn seen_among(alloc: Global, table: &Table, own: &Ledger) -> Result<Vec<Name>, A
     Ok(names)
 }
 
-// The names of what is seen, ascending.
+// The names of the visible objects, in ascending order.
 pub(crate) fn seen_names(
     alloc: Global,
     table: &Table,
@@ -44,7 +44,7 @@ pub(crate) fn seen_names(
     Ok(names)
 }
 
-// How many names are seen, by number.
+// How many objects are visible.
 pub(crate) fn count_seen(table: &Table, own: &Ledger) -> usize
     requires own { IsOwn table.now.entries own.now }
     ensures { result ≡ len (words_that is_visible (words_of table.now.entries own.now)) }

@@ -6,10 +6,10 @@ use nearby::Nearby;
 
 /// A set of names.
 pub trait NameSet {
-    /// Which names are in it.
+    /// Whether a name is in the set.
     ghost names: { Self → List ℕ → Bool };
 
-    /// Whether this name is in it. Names near the last ones may be found faster.
+    /// Whether a name is in the set. A name at a place near that of the last one may be found faster.
     fn has(&self, nearby: &Nearby, name: Name) -> bool
         ensures { result ≡ names self.now name };
 }

@@ -1,10 +1,10 @@
-// The numbers of names, those in use first, and the place of each.
+// The numbers of names, those in use first, and for each number its place.
 ghost use Rattle.std.specs.Prelude.{◌≡◌, ◌<◌, ◌≤◌, ℕ, List, length, get_or, nat_eq, OnOk, if◌then◌else◌};
 ghost use Rattle.object_table.specs.Numbers.{AreNoted};
 
 use std::alloc::AllocError;
 
-// Makes sure that there is a number at this place. Existing ones stay, whatever the result.
+// Makes sure that there is a number at this place. Existing numbers stay, also on an `Err`.
 pub(crate) fn extend(
     numbers: &mut Vec<u32>,
     places: &mut Vec<u32>,

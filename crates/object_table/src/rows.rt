@@ -12,7 +12,7 @@ use crate::row::Row;
 use git_name::{Hashing, Name};
 use indexmap::IndexMap;
 
-// Appends a new name, for which there is room. It allocates nothing.
+// Appends a new name, for which room was reserved. Allocates nothing.
 pub(crate) fn put_last(rows: &mut IndexMap<Name, Row, Hashing>, name: Name, row: Row)
     requires absent { lookup (same_name name) rows.old.entries ≡ None }
     requires room { 0 < spare rows.old }
@@ -48,7 +48,7 @@ pub(crate) fn write_at(rows: &mut IndexMap<Name, Row, Hashing>, at: usize, row: 
     *old = row;
 }
 
-// Removes the name at a place. The last name takes its place.
+// Removes the name at a place, and moves the last name there.
 pub(crate) fn take_out(rows: &mut IndexMap<Name, Row, Hashing>, at: usize)
     requires { at < length rows.old.entries }
     ensures entries { (p : List ℕ × Row) → slice_get rows.old.entries at ≡ Some p → rows.new.entries ≡ swap_remove rows.old.entries at p }
@@ -58,7 +58,7 @@ pub(crate) fn take_out(rows: &mut IndexMap<Name, Row, Hashing>, at: usize)
     rows.swap_remove_index(at);
 }
 
-// The place of the next look.
+// The place that the sweep looks at next. After the last place it starts again at the first.
 pub(crate) fn looked_place(place: usize, len: usize) -> usize
     ensures { result ≡ (if nat_lt place len then place else 0) }
 {

@@ -1,4 +1,4 @@
-// How the object of one name stands with one tenant, and the number of its holders.
+// Sets the standing of one object with one tenant, and updates the count of the name's holders.
 ghost use Rattle.std.specs.Prelude.{◌≡◌, ◌<◌, ◌+◌, ◌^◌, ◌||◌, ℕ, List, true, false, nat_eq, Some, IfSome, IfNone, if◌then◌else◌};
 ghost use Rattle.std.specs.FinMap.{get};
 ghost use Rattle.git_name.specs.Same.{same_name};
@@ -12,7 +12,7 @@ use crate::table::Table;
 use crate::word::{Standing, Word};
 use git_name::Name;
 
-// How an object stands, by whether it is seen and whether it is staged.
+// The standing of an object, by whether it is visible and whether it is staged.
 fn standing(seen: bool, staged: bool) -> Option<Standing>
     ensures { result ≡ standing_by seen staged }
 {
@@ -24,7 +24,7 @@ fn standing(seen: bool, staged: bool) -> Option<Standing>
     }
 }
 
-// What a tenant's ledger says of the object of a row.
+// What a tenant's ledger says about the object of a row.
 pub(crate) fn word_of(ledger: &Ledger, row: Row) -> Option<Word>
     ensures { result ≡ word_in ledger.now row }
 {
@@ -46,7 +46,7 @@ fn either(a: bool, b: bool) -> bool
     a || b
 }
 
-// A number of holders, after one was added or removed.
+// A count of holders, updated for one tenant: `held` says whether it counted, and `holds` whether it counts now.
 fn counted(count: usize, held: bool, holds: bool) -> usize
     requires fits { held ≡ false → holds ≡ true → count + 1 < 2 ^ 64 }
     requires there { held ≡ true → 0 < count }
@@ -58,7 +58,7 @@ fn counted(count: usize, held: bool, holds: bool) -> usize
     if held { count - 1 } else { count + 1 }
 }
 
-// Sets how the object of a row stands with a tenant. It allocates nothing.
+// Sets whether a tenant sees the object of a row, and whether it has staged it. Allocates nothing.
 pub(crate) fn settle(table: &mut Table, own: &mut Ledger, row: Row, visible: bool, staged: bool)
     requires there { (name : List ℕ) × (row_in table.old.entries name ≡ Some row) }
     requires one { IsOne table.old.entries own.old }

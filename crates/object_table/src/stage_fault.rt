@@ -2,7 +2,7 @@
 #[derive(Clone, Copy, Debug, PartialEq, Eq)]
 pub enum StageFault {
     Memory,
-    /// A tenant holds an object of one of the names with another kind or length, or two of the objects have one name and
-    /// differ in these.
+    /// A tenant holds an object with one of the names but another kind or length, or two of the objects have the same
+    /// name and differ in kind or length.
     Clash,
 }

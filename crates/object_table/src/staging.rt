@@ -1,4 +1,5 @@
-// Stages objects for one tenant, or has it see them. Room is reserved first.
+// Stages objects for one tenant, or makes them visible to it. Room is reserved first, so that nothing can fail
+// halfway.
 ghost use Rattle.std.specs.Prelude.{◌≡◌, true, ℕ, OnErr, OnOk};
 ghost use Rattle.std.specs.List.{All};
 ghost use Rattle.number_sets.specs.Numbers.{has_room};
@@ -27,7 +28,7 @@ fn reserve(table: &Table, own: &mut Ledger, entry: Entry) -> Result<(), AllocErr
     own.reserve(row.number)
 }
 
-// The same for entries.
+// Does the same for each entry.
 fn reserve_all(table: &Table, own: &mut Ledger, entries: &[Entry]) -> Result<(), AllocError>
     ensures same { SameSets own.old own.new }
     ensures ok { OnOk result (All (λ entry. HasRoom table.now.entries own.new entry.name) entries.now) }
@@ -38,7 +39,7 @@ fn reserve_all(table: &Table, own: &mut Ledger, entries: &[Entry]) -> Result<(),
     Ok(())
 }
 
-// Stages the object of an entry. It allocates nothing.
+// Stages the object of an entry. Allocates nothing.
 fn stage_one(table: &mut Table, own: &mut Ledger, entry: Entry)
     requires row { HasRow table.old.entries entry }
     requires one { IsOne table.old.entries own.old }
@@ -57,7 +58,7 @@ fn stage_one(table: &mut Table, own: &mut Ledger, entry: Entry)
     settle(table, own, row, seen, true);
 }
 
-// Has the object of an entry seen. It allocates nothing.
+// Makes the object of an entry visible. Allocates nothing.
 fn see_one(table: &mut Table, own: &mut Ledger, entry: Entry)
     requires row { HasRow table.old.entries entry }
     requires one { IsOne table.old.entries own.old }
@@ -76,7 +77,7 @@ fn see_one(table: &mut Table, own: &mut Ledger, entry: Entry)
     settle(table, own, row, true, staged);
 }
 
-// Stages the objects of these entries, in order, all or none.
+// Stages these objects, in order. On an `Err` none is staged.
 pub(crate) fn stage_entries(
     table: &mut Table,
     own: &mut Ledger,
@@ -97,7 +98,7 @@ pub(crate) fn stage_entries(
     Ok(())
 }
 
-// Has the objects of these entries seen, all or none.
+// Makes these objects visible. On an `Err` none becomes visible.
 pub(crate) fn see_entries(
     table: &mut Table,
     own: &mut Ledger,

@@ -14,8 +14,8 @@ use nearby::Nearby;
 use std::alloc::{AllocError, Global};
 use std::marker::Model;
 
-/// Names in places, each with its row, and the place of the next look. A row's number stays as long as its name, and
-/// may be another name's after that.
+/// Names in places, each with its row, and the place that the sweep looks at next. A name keeps its number as long as
+/// it is in the table. After that, the number may be given to another name.
 #[derive(Drop)]
 pub struct Table {
     rows: IndexMap<Name, Row, Hashing>,
@@ -41,7 +41,7 @@ impl Model for Table {
 }
 
 impl Table {
-    /// Without names.
+    /// An empty table.
     pub(crate) fn new(alloc: Global, hashing: Hashing) -> Table
         ensures entries { result.entries ≡ [] }
         ensures place { result.place ≡ 0 }
@@ -61,7 +61,7 @@ impl Table {
         self.hashing
     }
 
-    /// What holds of all rows. It does nothing; proofs call it for its clauses.
+    /// What is true of all rows. It does nothing. Proofs call it for its clauses.
     pub(crate) fn invariant(&self)
         ensures rows { AreRows self.now.entries }
         ensures place { self.now.place ≤ length self.now.entries }
@@ -69,7 +69,7 @@ impl Table {
         let _count = self.rows.len();
     }
 
-    /// How many names there are.
+    /// The number of names.
     pub(crate) fn len(&self) -> usize
         ensures { result ≡ length (places_of self.now).names }
     {
@@ -101,7 +101,7 @@ impl Table {
         }
     }
 
-    /// Appends a name that nobody holds, unless it is there.
+    /// Appends a name that nobody holds, unless the table has it.
     pub(crate) fn enter(&mut self, name: Name) -> Result<(), AllocError>
         ensures listed { OnOk result ((q : List ℕ) → is_listed (places_of self.new).names q ≡ (same_name name q || is_listed (places_of self.old).names q)) }
         ensures grows { GrowsAmong (name ∷ []) (places_of self.old) (places_of self.new) }
@@ -126,7 +126,7 @@ impl Table {
         Ok(())
     }
 
-    /// Replaces the row of a number that is in use. It allocates nothing.
+    /// Replaces the row of a number that is in use. Allocates nothing.
     pub(crate) fn write(&mut self, row: Row)
         requires used { IsUsed self.old.entries row.number }
         ensures places { places_of self.new ≡ places_of self.old }
@@ -136,7 +136,7 @@ impl Table {
         write_at(&mut self.rows, at, row);
     }
 
-    /// The name at the place of the next look, if nobody holds it.
+    /// The name at the place that the sweep looks at next, if nobody holds it.
     pub(crate) fn free_name(&self) -> Option<Name>
         ensures some { IfSome result (λ name. LooksNextAt (places_of self.now) name × (count_in self.now.entries name ≡ 0)) }
         ensures none { IfNone result (((places_of self.now).names ≡ []) ⊎ ((name : List ℕ) × LooksNextAt (places_of self.now) name × (0 < count_in self.now.entries name))) }
@@ -152,7 +152,7 @@ impl Table {
         }
     }
 
-    /// The name at a place, if a tenant holds it. Each name is at one place.
+    /// The name at a place, if a tenant holds it.
     pub(crate) fn held_name(&self, at: usize) -> Option<Name>
         ensures some { IfSome result (λ name. (slice_get (places_of self.now).names at ≡ Some name) × (0 < count_in self.now.entries name)) }
         ensures first { IfSome result (λ name. is_listed (take at (places_of self.now).names) name ≡ false) }
@@ -168,7 +168,7 @@ impl Table {
         }
     }
 
-    /// Skips the name at the place of the next look.
+    /// Moves the sweep on to the next place.
     pub(crate) fn pass(&mut self)
         requires { 0 < length (places_of self.old).names }
         ensures entries { self.new.entries ≡ self.old.entries }
@@ -177,8 +177,8 @@ impl Table {
         self.place = looked_place(self.place, self.rows.len()) + 1;
     }
 
-    /// Removes the name at the place of the next look, and its row. The last name takes its place, and the next look is
-    /// there again. Its number is free for another name.
+    /// Removes the name that the sweep looks at, with its row, and frees its number. The last name moves to this
+    /// place, and the sweep looks at it next.
     pub(crate) fn leave(&mut self, name: Name)
         requires next { LooksNextAt (places_of self.old) name }
         ensures left { (front back : List (List ℕ)) → (places_of self.old).names ≡ front ++ name ∷ back → length front ≡ looked_at (places_of self.old)
@@ -194,7 +194,7 @@ impl Table {
         self.place = at;
     }
 
-    /// Sets the place to the beginning.
+    /// Moves the sweep back to the first place.
     pub(crate) fn restart(&mut self)
         ensures entries { self.new.entries ≡ self.old.entries }
         ensures place { self.new.place ≡ 0 }
@@ -203,7 +203,7 @@ impl Table {
         self.place = 0;
     }
 
-    /// The place of the next look.
+    /// The place that the sweep looks at next. It may be the length of the table, which means the first place.
     pub(crate) fn place(&self) -> usize
         ensures place { result ≡ self.now.place }
         ensures within { result ≤ length (places_of self.now).names }

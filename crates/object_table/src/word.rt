@@ -11,7 +11,8 @@ pub enum Standing {
     Both,
 }
 
-/// What a ledger says of an object: the length of its content, its kind, and how it stands with the tenant.
+/// What a ledger says about an object: the length of its content in bytes, its kind, and its standing with the
+/// tenant.
 #[derive(Clone, Copy, Debug, PartialEq, Eq)]
 pub struct Word {
     pub length: u64,

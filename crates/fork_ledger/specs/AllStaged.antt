@@ -1,4 +1,4 @@
--- Objects that are staged in one call, and what of them comes to the store (own).
+-- Objects staged in one call, and what they add to the store (own).
 use Rattle.std.specs.Prelude.{◌≡◌, ◌≢◌, ◌⊎◌, ◌++◌, ℕ, List, [], ◌∷◌, Contains, length}
 use Rattle.std.specs.List.{All}
 use Rattle.git_name.specs.Object.{Object, object_name}
@@ -15,23 +15,23 @@ abbrev pub with_all_staged : List Object → Private → Private
 with_all_staged [] own = own
 with_all_staged (object ∷ objects) own = with_all_staged objects (with_staged object own)
 
--- each of these objects stands whole on the store, under its name
+-- each of these objects has a whole file under its name
 abbrev pub AllWhole : Files → List Object → Type 0
 AllWhole files objects = All (λ object. Whole files (object_name object) object) objects
 
--- what stood whole on the store still does
+-- each file that was whole is still whole
 abbrev pub StaysWhole : Files → Files → Type 0
 StaysWhole old new = (name : List ℕ) (object : Object) → Whole old name object → Whole new name object
 
--- whatever any tenant's ledger says of the object's name is of its kind and length
+-- each ledger with the object's name has it with the object's kind and length
 abbrev pub IsAsTold : AllWords → Object → Type 0
 IsAsTold ledgers object = AreAs ledgers (object_name object) object.kind (length object.bytes)
 
--- no other objects than these came to stand whole on the store
+-- no other objects than these came to the store
 abbrev pub StoresAmong : List Object → Files → Files → Type 0
 StoresAmong objects old new = (name : List ℕ) (other : Object) → Whole new name other → Whole old name other ⊎ Contains objects other
 
--- objects came to the store, and their names to the catalogue
+-- these objects came to the store, and their names to the catalogue
 pub record Receives (objects : List Object) (old new : Files) (first last : Places) : Type 0 where
   pub whole : AllWhole new objects
   pub stands : StaysWhole old new
@@ -39,7 +39,7 @@ pub record Receives (objects : List Object) (old new : Files) (first last : Plac
   pub covers : Covers old first → Covers new last
   pub exact : IsExact old first → IsExact new last
 
--- one of these objects meets another of its name, which stood whole on the store or came before it
+-- one of these objects meets another of its name, which was whole on the store or came earlier in the list
 pub record MeetsAmong (objects : List Object) (files : Files) : Type 0 where
   pub front : List Object
   pub object : Object

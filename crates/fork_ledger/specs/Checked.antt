@@ -9,31 +9,31 @@ use Rattle.loose_store.specs.Files.{Files}
 use Rattle.loose_store.specs.Stored.{Whole}
 use Rattle.fork_ledger.specs.Harms.{HarmMap, IsHarmed}
 
--- the file of a name is so harmed, or whole of an object
+-- the file of a name has this harm, or is whole if there is none
 abbrev pub StandsAs : Files → List ℕ → Option Harm → Type 0
 StandsAs files name None = (object : Object) × Whole files name object
 StandsAs files name (Some harm) = IsHarmed files name harm
 
--- so the file of a name was read: over an honest store its own, and over any other what some files have
+-- what the check found for a name: over an honest store the state of its file, over any other that of some file
 pub record Shows (honest : Bool) (contents : Files) (name : List ℕ) (harm : Option Harm) : Type 0 where
   pub files : Files
   pub exact : IsTrue honest → files ≡ contents
   pub stands : StandsAs files name harm
 
--- whether a name stands at one of the first places, and is held
+-- whether a name is held, and is at one of the first places
 abbrev pub checked_until : (List ℕ → Bool) → List (List ℕ) → ℕ → List ℕ → Bool
 checked_until held names at name = is_listed (take at names) name && held name
 
--- with the harm of a name, if there is one
+-- with the harm of a name added, if there is one
 abbrev pub with_harm : HarmMap → List ℕ → Option Harm → HarmMap
 with_harm harms name None = harms
 with_harm harms name (Some harm) = insert harms name harm
 
--- each name that was checked was asked of the store itself, which answers nothing once it has failed 2^64 - 1 times
+-- each checked name was read from the store, which returns no more files once it has failed 2^64 - 1 times
 abbrev pub WasAsked : ℕ → (List ℕ → Bool) → Type 0
 WasAsked failures checked = (name : List ℕ) → checked name ≡ true → failures < greatest_count
 
--- of the names that were checked, and of no other, these are the harms
+-- these are the harms of the checked names, and of no others
 pub record HasChecked (honest : Bool) (contents : Files) (checked : List ℕ → Bool) (harms : HarmMap) : Type 0 where
   pub files : Files
   pub exact : IsTrue honest → files ≡ contents

@@ -15,24 +15,24 @@ use Rattle.fork_ledger.specs.Store.{IsDamaged}
 use Rattle.fork_ledger.specs.Taken.{is_taken}
 use Rattle.fork_ledger.specs.Tenants.{VaultState}
 
--- the file of a name is lost, as none stands there, or damaged, as one stands there that is whole of no object
+-- the file of a name is lost if there is none, and damaged if it is whole for no object
 abbrev pub IsHarmed : Files → List ℕ → Harm → Type 0
 IsHarmed files name Lost = get files name ≡ None
 IsHarmed files name Damaged = IsDamaged files name
 
--- just the held names whose files are harmed, ascending, each with its harm
+-- exactly the held names whose files are harmed, in ascending order, each with its harm
 pub record AreHarms (harms : Harmed) (files : Files) (held : List ℕ → Bool) : Type 0 where
   pub ascending : IsStrictlySortedBy name_cmp (keys_of harms)
   pub told : (name : List ℕ) (harm : Harm) → Contains harms (name, harm) → (held name ≡ true) × IsHarmed files name harm
   pub all : (name : List ℕ) (harm : Harm) → held name ≡ true → IsHarmed files name harm → Contains harms (name, harm)
 
--- the harms of the files that the store showed as it was read: over an honest one those that it has
+-- the harms of the files as the store returned them: over an honest store, of the files that it has
 pub record AreFound (harms : Harmed) (vault : VaultState) : Type 0 where
   pub files : Files
   pub exact : IsTrue vault.honest → files ≡ vault.files
   pub are : AreHarms harms files (is_taken vault.tenants)
 
--- harms by names
+-- harms by name
 abbrev pub HarmMap : Type 0
 HarmMap = FinMap name_cmp Harm
 

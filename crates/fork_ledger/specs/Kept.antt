@@ -1,4 +1,4 @@
--- What a vault keeps of its store, its catalogue and its ledgers (own).
+-- What is true of a vault's store, catalogue and ledgers (own).
 use Rattle.std.specs.Prelude.{◌≡◌, Some, true, List, ℕ}
 use Rattle.std.specs.FinMap.{contains_key, get}
 use Rattle.git_name.specs.Same.{is_listed}
@@ -9,7 +9,7 @@ use Rattle.loose_store.specs.Files.{Files}
 use Rattle.fork_ledger.specs.Shown.{tenants_of}
 use Rattle.fork_ledger.specs.Store.{IsStored}
 
--- each file's name is catalogued
+-- the name of each file is in the catalogue
 abbrev pub Covers : Files → Places → Type 0
 Covers files places = (name : List ℕ) → contains_key files name ≡ true → is_listed places.names name ≡ true
 
@@ -25,11 +25,11 @@ HasFiles ledgers files = (name : List ℕ) → is_held_in ledgers name ≡ true 
 abbrev pub KeepsHeld : AllWords → Files → Files → Type 0
 KeepsHeld ledgers old new = (name : List ℕ) → is_held_in ledgers name ≡ true → get new name ≡ get old name
 
--- no file came and none changed: what stands, stood so
+-- no file was added or changed
 abbrev pub TakesAway : Files → Files → Type 0
 TakesAway old new = (name file : List ℕ) → get new name ≡ Some file → get old name ≡ Some file
 
--- over an honest store what tenants hold stands whole, and the catalogue has each file's name
+-- over an honest store, each held object has a whole file, and the catalogue has the name of each file
 pub record IsKept (ledgers : AllWords) (files : Files) (places : Places) : Type 0 where
   pub stored : IsStored (tenants_of files ledgers) files
   pub covers : Covers files places

@@ -1,4 +1,4 @@
--- What is known of the objects of names (own): what they lead to, and when commits were made.
+-- What is known about the objects of names (own): their links, and when commits were made.
 use Rattle.std.specs.Prelude.{◌≡◌, ℕ, List, Some, map}
 use Rattle.std.specs.FinMap.{get}
 use Rattle.git_name.specs.Object.{Object}
@@ -9,14 +9,14 @@ use Rattle.loose_store.specs.Stored.{Whole}
 use Rattle.number_links.specs.Facts.{Learned, told}
 use Rattle.object_table.specs.Links.{NamedLinks}
 
--- what there is to know of an object
+-- the links and the time of an object
 abbrev pub learned_of : Object → Learned (List ℕ)
 learned_of object = told (map (λ link. link.name) (links_in object.kind object.bytes)) (time_in object.kind object.bytes)
 
--- an object of this name stands whole on the store, and this is what there is to know of it
+-- an object of this name has a whole file, and these are its links and its time
 abbrev pub LeadsTo : Files → List ℕ → Learned (List ℕ) → Type 0
 LeadsTo files name one = (object : Object) × Whole files name object × (learned_of object ≡ one)
 
--- what is known of each of these names is so
+-- what is known about each of these names is true
 pub record AreLed (links : NamedLinks) (files : Files) : Type 0 where
   pub each : (name : List ℕ) (one : Learned (List ℕ)) → get links name ≡ Some one → LeadsTo files name one

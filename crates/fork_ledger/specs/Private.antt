@@ -20,15 +20,15 @@ pub record Private : Type 0 where
 abbrev pub nothing : Private
 nothing = record { visible = empty; staged = empty }
 
--- both sides as one: of two objects of one name the one that is seen counts
+-- the visible and the staged objects together; if both have a name, the visible one counts
 abbrev pub both_of : Private → Objects
 both_of own = joined own.visible own.staged
 
--- the object that stands for one that comes: the one of its name that is seen, or else itself
+-- the object to stage for this one: the visible one of its name, or else itself
 abbrev pub standing : Private → Object → Object
 standing own object = unwrap_or (get own.visible (object_name object)) object
 
--- objects with this one under this name, unless there is one
+-- objects with this one added under this name, unless there is one
 abbrev pub with_under : Objects → List ℕ → Object → Objects
 with_under objects name object = if contains_key objects name then objects else insert objects name object
 
@@ -36,7 +36,7 @@ with_under objects name object = if contains_key objects name then objects else 
 abbrev pub with_staged : Object → Private → Private
 with_staged object own = record { visible = own.visible; staged = with_under own.staged (object_name object) (standing own object) }
 
--- with what is staged visible
+-- with everything staged made visible
 abbrev pub with_published : Private → Private
 with_published own = record { visible = both_of own; staged = empty }
 
@@ -44,11 +44,11 @@ with_published own = record { visible = both_of own; staged = empty }
 abbrev pub with_discarded : Private → Private
 with_discarded own = record { visible = own.visible; staged = empty }
 
--- with those visible objects alone whose names pass; what is staged stays
+-- without the visible objects whose names do not pass; what is staged stays
 abbrev pub with_kept : (List ℕ → Bool) → Private → Private
 with_kept names own = record { visible = retain_keys own.visible names; staged = own.staged }
 
--- with these objects seen beside the others: of two of one name the one that is seen already counts
+-- with these objects made visible; if one of the name is visible already, that one stays
 abbrev pub with_adopted : Objects → Private → Private
 with_adopted objects own = record { visible = joined own.visible objects; staged = own.staged }
 
@@ -56,7 +56,7 @@ with_adopted objects own = record { visible = joined own.visible objects; staged
 abbrev pub AreAmong : Objects → Objects → Type 0
 AreAmong some all = (name : List ℕ) (object : Object) → get some name ≡ Some object → get all name ≡ Some object
 
--- objects that stand under one name in both are of one kind and length
+-- if both have an object of a name, the two have the same kind and length
 abbrev pub AreAlike : Objects → Objects → Type 0
 AreAlike objects others = (name : List ℕ) (object other : Object) → get objects name ≡ Some object → get others name ≡ Some other → measure_of other ≡ measure_of object
 
@@ -66,25 +66,25 @@ is_held_by own name = contains_key own.visible name || contains_key own.staged n
 
 -- the tenant has this object under this name
 pub data Holds (own : Private) (name : List ℕ) (object : Object) : Type 0 where
-  -- it sees it
+  -- the tenant sees it
   Sees : get own.visible name ≡ Some object → Holds own name object
-  -- it has staged it
+  -- the tenant has staged it
   Awaits : get own.staged name ≡ Some object → Holds own name object
 
--- what is known of an object without its bytes
+-- what is known about an object without its bytes
 abbrev pub held_of : Object → Bool → Bool → Held
 held_of object visible staged = record { kind = object.kind; length = length object.bytes; visible = visible; staged = staged }
 
--- what is known of the object of a name
+-- what is known about the object of a name
 abbrev pub held_in : Private → List ℕ → Option Held
 held_in own name = option_map (λ object. held_of object (contains_key own.visible name) (contains_key own.staged name)) (get (both_of own) name)
 
--- the kind of an object, where it is seen
+-- the kind of an object, if it is visible
 abbrev pub kind_seen : Option Held → Option Kind
 kind_seen None = None
 kind_seen (Some held) = if held.visible then Some held.kind else None
 
--- what of private maps no store can change: names, kinds and lengths
+-- what no store can change about private maps: names, kinds and lengths
 abbrev pub private_measures : Private → Measures × Measures
 private_measures own = (measures_of own.visible, measures_of own.staged)
 

@@ -9,12 +9,12 @@ use Rattle.object_table.specs.Rows.{places_of}
 use Rattle.read_cache.specs.Stores.{StoreState}
 use Rattle.fork_ledger.specs.Led.{AreLed}
 
--- the object whose whole file has this name, or none if there is no such object
+-- the object with a whole file under this name, or none if there is no such object
 abbrev pub IsSurveyed : Files → List ℕ → Option Object → Type 0
 IsSurveyed files name (Some object) = Whole files name object
 IsSurveyed files name None = (object : Object) → Whole files name object → ⊥
 
--- nobody holds anything yet; over an honest store the catalogue has the names of the files, ascending, and what is known of them is so
+-- nobody holds anything; over an honest store the catalogue has the files' names, ascending, and known links are true
 pub record IsCatalogued (store : StoreState) (holdings : HoldingsState) : Type 0 where
   pub ledgers : holdings.ledgers ≡ empty
   pub place : (places_of holdings.catalogue).place ≡ 0

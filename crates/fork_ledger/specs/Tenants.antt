@@ -1,4 +1,4 @@
--- The private maps of all tenants (own): a tenant's calls change its own.
+-- The private maps of all tenants (own): a tenant's calls change only its own.
 use Rattle.std.specs.Prelude.{ℕ, Bool, List, if◌then◌else◌, refl}
 use Rattle.std.specs.Option.{unwrap_or}
 use Rattle.std.specs.Coded.{Coded, code_by, coded×, coded_bool, coded_ℕ, coded_list}
@@ -14,8 +14,7 @@ use Rattle.fork_ledger.specs.Private.{Private, nothing, private_code, private_me
 abbrev pub Tenants : Type 0
 Tenants = FinMap name_cmp Private
 
--- what a vault shows: the private maps; the files of the store, whether it gives what it was given, and how often it failed;
--- and for looks alone the catalogued names in their places, and the place of the next look
+-- what a vault shows: private maps; the store's files, its honesty, its count of failures; the catalogue's places
 pub record VaultState : Type 0 where
   pub tenants : Tenants
   pub files : Files
@@ -23,19 +22,19 @@ pub record VaultState : Type 0 where
   pub failures : ℕ
   pub places : Places
 
--- a tenant's private maps; an unknown one has no objects
+-- a tenant's private maps; an unknown tenant has no objects
 abbrev pub private_of : Tenants → List ℕ → Private
 private_of tenants tenant = unwrap_or (get tenants tenant) nothing
 
--- with one more tenant, which has no objects, unless it is there already
+-- with a tenant added that has no objects, unless it is there already
 abbrev pub with_tenant : Tenants → List ℕ → Tenants
 with_tenant tenants tenant = if contains_key tenants tenant then tenants else insert tenants tenant nothing
 
--- with one tenant's private maps changed; of an unknown one nothing changes
+-- with one tenant's private maps changed; for an unknown tenant nothing changes
 abbrev pub at_tenant : Tenants → List ℕ → (Private → Private) → Tenants
 at_tenant tenants tenant change = if contains_key tenants tenant then insert tenants tenant (change (private_of tenants tenant)) else tenants
 
--- what of all private maps no store can change: who is there, and the names, kinds and lengths of each
+-- what no store can change about private maps: who has one, and the names, kinds and lengths in each
 abbrev pub shape_of : Tenants → FinMap name_cmp (Measures × Measures)
 shape_of tenants = map_values private_measures tenants
 

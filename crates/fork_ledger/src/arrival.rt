@@ -25,8 +25,8 @@ pub(crate) fn store_fault(fault: FileFault) -> VaultFault
     }
 }
 
-// Makes sure that the file of an object is whole. If there is no file, it is written. A whole file is compared
-// and never overwritten. A file that is not whole is overwritten if no tenant holds the name.
+// Makes sure that the file of an object is whole. A missing file is written. A whole file is compared with the object
+// and never overwritten. A damaged file is overwritten only if no tenant holds the name.
 pub(crate) fn arrive<S: LooseFiles>(
     alloc: Global,
     files: &mut CachedStore<S>,
@@ -73,7 +73,7 @@ fn is_same(found: &Sealed, sealed: &Sealed) -> bool
     found.kind() == sealed.kind() && found.bytes() == sealed.bytes()
 }
 
-// The file of an arriving object is there, whole, and is relied on from here on.
+// The file of an arriving object is already there and whole. The next `sync` includes it.
 fn rely_on<S: LooseFiles>(files: &mut CachedStore<S>, name: Name) -> Result<(), VaultFault>
     ensures files { files.new ≡ files.old }
     ensures cause { IfErr result (λ fault. fault ≡ VaultFault.Memory) }

@@ -1,4 +1,4 @@
-// Reads each file of a held name once, and collects what is wrong.
+// Reads the file of each held name once, and collects what is wrong.
 ghost use Rattle.std.specs.Prelude.{◌≡◌, ◌≢◌, ◌<◌, ◌+◌, ℕ, List, IsTrue, IfErr, IfOk, OnOk, true};
 ghost use Rattle.git_name.specs.Count.{fault_in, greatest_count};
 ghost use Rattle.object_table.specs.Rows.{places_of};
@@ -15,7 +15,7 @@ use object_table::Holdings;
 use read_cache::CachedStore;
 use std::alloc::Global;
 
-// What is wrong with the file of a name, if anything. It is read from the store, not from a cache.
+// What is wrong with the file of a name, if anything. The file is read from the store, not from a cache.
 fn harm_of<S: LooseFiles>(
     alloc: Global,
     files: &mut CachedStore<S>,

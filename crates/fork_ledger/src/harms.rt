@@ -12,7 +12,7 @@ use std::alloc::{AllocError, Global};
 use std::collections::BTreeMap;
 use std::marker::Model;
 
-/// What is wrong with the files of objects that tenants hold, by name, ascending.
+/// What is wrong with the files of objects that tenants hold, in ascending order of their names.
 #[derive(Drop)]
 pub struct Harms {
     found: BTreeMap<Name, Harm>,
@@ -47,7 +47,7 @@ impl Harms {
         put(&mut self.found, name, harm)
     }
 
-    /// The lines that report them, one for each name.
+    /// The report, one line for each name.
     pub fn lines(&self, alloc: Global) -> Result<Vec<u8>, AllocError>
         ensures { IfOk result (λ text. text.items ≡ harm_lines (map.entries self.now)) }
     {

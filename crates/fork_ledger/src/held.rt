@@ -4,8 +4,8 @@ ghost use Rattle.fork_ledger.specs.Words.{held_of_word};
 use git_name::Kind;
 use object_table::Word;
 
-/// What is known of a tenant's object without its bytes: its kind, its length, whether the tenant sees it and
-/// whether the tenant has staged it. An object may be both.
+/// What is known about a tenant's object without its bytes: its kind, its length in bytes, whether the tenant sees
+/// it, and whether the tenant has staged it. An object may be both visible and staged.
 #[derive(Clone, Copy, Debug, PartialEq, Eq)]
 pub struct Held {
     pub kind: Kind,
@@ -14,7 +14,7 @@ pub struct Held {
     pub staged: bool,
 }
 
-// What a ledger's word says of an object.
+// What a ledger's word says about an object.
 pub(crate) fn held_of(word: Option<Word>) -> Option<Held>
     ensures { result ≡ option_map held_of_word word }
 {

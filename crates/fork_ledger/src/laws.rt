@@ -14,8 +14,9 @@ pub fn one_list_of_harms()
     ensures { (files : Files) (held : List ℕ → Bool) (first second : Harmed) → AreHarms first files held → AreHarms second files held → first ≡ second }
 {}
 
-/// After slices that add up to at least twice the number of names that were catalogued, with no other
-/// call between, an honest store has files of just the names of which some tenant has an object.
+/// A law, with no code to run. Take sweeps in slices that add up to at least twice the number of catalogued names,
+/// with no other call between them. Afterwards, an honest store has a file for a name if and only if some tenant
+/// holds it.
 pub fn sharp_slices()
     ensures { (slices : List ℕ) (old new : VaultState) → AreSwept slices old new → old.places.place ≤ length old.places.names → 2 * length old.places.names ≤ sum slices
         → IsAccounted new → (name : List ℕ) → contains_key new.files name ≡ is_taken new.tenants name }

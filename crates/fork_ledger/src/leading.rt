@@ -17,8 +17,8 @@ use object_table::Holdings;
 use read_cache::CachedStore;
 use std::alloc::Global;
 
-// Learns the links and the time of the object of this name, kind and bytes, unless they are known. A blob has no
-// links, so there is nothing to learn.
+// Learns the links and the time of an object from its bytes, unless they are known. A blob has no links, so nothing
+// is learned from it.
 pub(crate) fn learn_links(
     alloc: Global,
     holdings: &mut Holdings,

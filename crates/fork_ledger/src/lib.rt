@@ -1,7 +1,6 @@
-//! Each tenant's own objects, over one store that keeps each object once: the objects that it sees, and those
-//! that it has staged.
-//! A call for one tenant reads and changes no other's, a call that fails changes none, and a sweep
-//! removes just what nobody holds.
+//! Each tenant's own objects, visible and staged, over one store that keeps each object once. A call for one tenant
+//! neither reads nor changes the objects of another. A call that fails changes no tenant's objects. A sweep removes
+//! only what nobody holds, and a whole round removes all of it.
 #![tactic(auto)]
 
 mod arrival;

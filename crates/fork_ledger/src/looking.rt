@@ -15,7 +15,7 @@ use object_table::Holdings;
 use read_cache::CachedStore;
 use std::alloc::Global;
 
-// Removes the file of the next name, which no tenant holds, and then the name.
+// Removes the file of the next name, which no tenant holds, and then the name itself.
 fn take_away<S: LooseFiles>(
     alloc: Global,
     files: &mut CachedStore<S>,
@@ -54,7 +54,7 @@ fn take_away<S: LooseFiles>(
     }
 }
 
-// Looks at the next place of a catalogue that is not empty. Returns whether the name was removed.
+// Looks at the next place of the catalogue, which is not empty. Returns whether the name there was removed.
 pub(crate) fn look_once<S: LooseFiles>(
     alloc: Global,
     files: &mut CachedStore<S>,

@@ -10,7 +10,7 @@ use loose_store::{LooseFiles, StoreFault};
 use read_cache::CachedStore;
 use std::alloc::Global;
 
-// The object of a name that some tenant holds. A lost or damaged file is reported.
+// Reads the object of a name that some tenant holds. A lost or damaged file is `Damaged`.
 pub(crate) fn read_held<S: LooseFiles>(
     alloc: Global,
     files: &mut CachedStore<S>,

@@ -1,4 +1,4 @@
-// Stages objects that a tenant saw before and that a survey found, without reading them again.
+// Stages objects that a tenant saw before and that a survey found, without reading them a second time.
 ghost use Rattle.std.specs.Prelude.{◌≡◌, ◌∷◌, [], true, IsTrue, OnErr, OnOk};
 ghost use Rattle.std.specs.FinMap.{contains_key};
 ghost use Rattle.looks.specs.Growth.{GrowsAmong};
@@ -19,14 +19,14 @@ use thiserror::Error;
 /// Why an object was not recalled.
 #[derive(Clone, Copy, Debug, PartialEq, Eq, Error)]
 pub enum RecallFault {
-    /// Also if some tenant has an object of this name with another kind or length.
+    /// No survey found the object, or some tenant holds the name with another kind or length.
     #[error("no survey found the object")]
     Unknown,
     #[error("no memory")]
     Memory,
 }
 
-// Stages an object that a survey of the store found, and adds its name to the catalogue if it is not there.
+// Stages an object that a survey of the store found. Adds its name to the catalogue if it is not there.
 pub(crate) fn recall_known<S: LooseFiles>(
     files: &CachedStore<S>,
     holdings: &mut Holdings,
@@ -52,7 +52,7 @@ pub(crate) fn recall_known<S: LooseFiles>(
     }
 }
 
-// Stages an object of this name, kind and length, and adds its name to the catalogue if it is not there.
+// Stages an object of this name, kind and length. Adds its name to the catalogue if it is not there.
 fn recall(
     holdings: &mut Holdings,
     tenant: &TenantName,

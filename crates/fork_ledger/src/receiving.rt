@@ -1,4 +1,4 @@
-// Receives objects: their names in the catalogue, and their files on the store.
+// Receives objects: adds their names to the catalogue, and writes their files to the store.
 ghost use Rattle.std.specs.Prelude.{◌≡◌, ◌||◌, ◌∷◌, [], true, List, ℕ, IsTrue, IfErr, IfOk, OnOk, map as map_list};
 ghost use Rattle.git_name.specs.Object.{Object, object_name};
 ghost use Rattle.git_name.specs.Same.{is_listed, same_name};
@@ -57,7 +57,7 @@ pub(crate) fn receive<S: LooseFiles>(
     Ok(())
 }
 
-// The ledger entries of these objects, in order.
+// The ledger entries of these objects, in the same order.
 pub(crate) fn entries_of(alloc: Global, objects: &[Sealed]) -> Result<Vec<Entry>, AllocError>
     ensures { IfOk result (λ entries. entries.items ≡ map_list entry_of objects.now) }
 {
@@ -68,7 +68,7 @@ pub(crate) fn entries_of(alloc: Global, objects: &[Sealed]) -> Result<Vec<Entry>
     Ok(entries)
 }
 
-// Receives objects, in order. After a fault those before it stay received.
+// Receives objects, in order. After an `Err` the objects before the fault stay received.
 pub(crate) fn receive_all<S: LooseFiles>(
     alloc: Global,
     files: &mut CachedStore<S>,

@@ -1,6 +1,6 @@
-// Stages objects for a tenant: their names in the catalogue, their files on the store, and their words in the
-// tenant's ledger. If some ledger has an object of one of these names with another kind or length, that is
-// reported before anything is read.
+// Stages objects for a tenant: adds their names to the catalogue, their files to the store, and their words to the
+// tenant's ledger. If some ledger has one of these names with another kind or length, the objects are refused before
+// anything is read.
 ghost use Rattle.std.specs.Prelude.{◌≡◌, ◌∷◌, [], true, false, List, ℕ, Contains, Err, IsTrue, IfErr, OnErr, OnOk, length, map as map_list};
 ghost use Rattle.std.specs.List.{All};
 ghost use Rattle.git_name.specs.Object.{Object, object_name};
@@ -60,7 +60,7 @@ pub(crate) fn stage_whole<S: LooseFiles>(
     stage_fit(alloc, files, holdings, tenant, sealed)
 }
 
-// The same for an object that has the kind and length that each ledger with its name says.
+// Does the same for an object whose kind and length agree with each ledger that has its name.
 fn stage_fit<S: LooseFiles>(
     alloc: Global,
     files: &mut CachedStore<S>,
@@ -99,7 +99,7 @@ fn stage_fit<S: LooseFiles>(
     }
 }
 
-// The same for several objects, in order, all or none.
+// Does the same for several objects, in order. On an `Err` none is staged.
 pub(crate) fn stage_all_whole<S: LooseFiles>(
     alloc: Global,
     files: &mut CachedStore<S>,
@@ -128,7 +128,7 @@ pub(crate) fn stage_all_whole<S: LooseFiles>(
     stage_all_fit(alloc, files, holdings, tenant, objects)
 }
 
-// Whether each object has the kind and length that each ledger with its name says.
+// Whether the kind and length of each object agree with each ledger that has its name.
 fn may_stage_all(holdings: &Holdings, objects: &[Sealed]) -> bool
     ensures may { result ≡ true → All (IsAsTold holdings.now.ledgers) objects.now }
     ensures clash { result ≡ false → (object : Object) × Contains objects.now object × (IsAsTold holdings.now.ledgers object → ⊥) }
@@ -142,7 +142,7 @@ fn may_stage_all(holdings: &Holdings, objects: &[Sealed]) -> bool
     true
 }
 
-// Stages objects that have the kinds and lengths that each ledger with their names says.
+// Stages objects whose kinds and lengths agree with each ledger that has their names.
 fn stage_all_fit<S: LooseFiles>(
     alloc: Global,
     files: &mut CachedStore<S>,

@@ -14,8 +14,8 @@ use read_cache::CachedStore;
 use std::alloc::Global;
 use std::marker::Model;
 
-/// A store whose objects are read before a vault is over it. The vault then recalls them for tenants without
-/// reading them again, and knows their links.
+/// A store whose objects are read before a vault is opened over it. The vault can then recall these objects for
+/// tenants without reading them a second time, and knows their links.
 #[derive(Drop)]
 pub struct Survey<S: LooseFiles> {
     pub(crate) files: CachedStore<S>,
@@ -36,7 +36,7 @@ impl<S: LooseFiles> Model for Survey<S> {
 }
 
 impl<S: LooseFiles + Drop> Survey<S> {
-    /// A survey of this store in which nothing was read yet. The names of the files are listed.
+    /// A survey of this store. It lists the names of the files and reads none of them.
     pub fn new(alloc: Global, files: S) -> Result<Survey<S>, VaultFault>
         ensures contents { IsTrue (S.honest files) → IfOk result (λ survey. survey.contents ≡ S.contents files) }
         ensures honest { IfOk result (λ survey. survey.honest ≡ S.honest files) }
@@ -58,7 +58,7 @@ impl<S: LooseFiles + Drop> Survey<S> {
 }
 
 impl<S: LooseFiles> Survey<S> {
-    /// The object of this name, if its file is whole. Its links are known from then on.
+    /// Reads the object of this name, if its file is whole, and learns its links.
     pub fn read(&mut self, alloc: Global, name: Name) -> Result<Option<Sealed>, VaultFault>
         ensures found { IsTrue self.old.honest → IfOk result (IsSurveyed self.old.contents name) }
         ensures kept { IsTrue self.old.honest → self.new.contents ≡ self.old.contents }

@@ -23,7 +23,7 @@ fn number_of(left: bool) -> u64
     if left { 1 } else { 0 }
 }
 
-// At most `most` looks, and fewer only if the catalogue becomes empty. Returns how many names were removed.
+// Looks at `most` places, or fewer if the catalogue becomes empty. Returns how many names were removed.
 pub(crate) fn sweep<S: LooseFiles>(
     alloc: Global,
     files: &mut CachedStore<S>,
@@ -56,7 +56,7 @@ pub(crate) fn sweep<S: LooseFiles>(
     Ok(count)
 }
 
-// One whole round, from the first place to the last. Returns how many names were removed.
+// Looks at every place, from the first to the last. Returns how many names were removed.
 pub(crate) fn collect<S: LooseFiles>(
     alloc: Global,
     files: &mut CachedStore<S>,

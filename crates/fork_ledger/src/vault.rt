@@ -45,13 +45,13 @@ use read_cache::CachedStore;
 use std::alloc::{AllocError, Global};
 use std::marker::Model;
 
-/// The objects of many tenants, over one store that keeps each object once. A tenant sees some objects, and has
-/// staged some until they are published or discarded; an object may be both. Beside the store, a vault keeps
-/// what is known of each tenant's objects without their bytes, and the catalogue of all names that may be on the
-/// store.
+/// The objects of many tenants, over one store that keeps each object once. A tenant sees some objects. It has others
+/// staged until they are published or discarded. An object may be both visible and staged. Apart from the store, a
+/// vault keeps what is known about each tenant's objects without their bytes, and a catalogue of all names that may
+/// be in the store.
 ///
-/// Clauses with the premise that the store is honest speak of objects. Clauses without it speak of names, kinds
-/// and lengths, and hold over any store.
+/// A store is honest if it returns what was written to it. Clauses with this premise speak of objects. Clauses
+/// without it speak of names, kinds and lengths, and hold over any store.
 #[derive(Drop)]
 pub struct Vault<S: LooseFiles> {
     files: CachedStore<S>,
@@ -82,7 +82,8 @@ impl<S: LooseFiles> Model for Vault<S> {
 }
 
 impl<S: LooseFiles + Drop> Vault<S> {
-    /// A vault over the store of a survey, without tenants. The catalogue has the names of the files, ascending.
+    /// A vault over the store of a survey, without tenants. The catalogue has the names of the files, in ascending
+    /// order.
     pub fn over(survey: Survey<S>) -> Vault<S>
         ensures empty { result.tenants ≡ map.empty }
         ensures store { IsOver survey.contents survey.honest survey.failures result }
@@ -97,14 +98,14 @@ impl<S: LooseFiles + Drop> Vault<S> {
 }
 
 impl<S: LooseFiles> Vault<S> {
-    /// The store.
+    /// Returns the store.
     pub fn close(self) -> S
         ensures { IsOver (S.contents result) (S.honest result) (S.failures result) self }
     {
         self.files.close()
     }
 
-    /// How to hash names of objects.
+    /// The hashing of object names.
     pub fn hashing(&self) -> Hashing {
         self.files.hashing()
     }
@@ -118,14 +119,14 @@ impl<S: LooseFiles> Vault<S> {
         self.holdings.add(alloc, tenant)
     }
 
-    /// Whether this tenant exists.
+    /// Whether a tenant exists.
     pub fn contains(&self, tenant: &TenantName) -> bool
         ensures { result ≡ map.contains_key self.now.tenants tenant.now }
     {
         self.holdings.contains(tenant)
     }
 
-    /// The object that a tenant sees under this name, as a copy.
+    /// Reads the object that a tenant sees under this name, and learns its links.
     pub fn get(
         &mut self,
         alloc: Global,
@@ -150,7 +151,7 @@ impl<S: LooseFiles> Vault<S> {
         read_and_learn(alloc, &mut self.files, &mut self.holdings, name)
     }
 
-    /// The object that a tenant has staged under this name, as a copy.
+    /// Reads the object that a tenant has staged under this name, and learns its links.
     pub fn get_staged(
         &mut self,
         alloc: Global,
@@ -175,8 +176,8 @@ impl<S: LooseFiles> Vault<S> {
         read_and_learn(alloc, &mut self.files, &mut self.holdings, name)
     }
 
-    /// The kind and the bytes of the object that a tenant sees under this name, borrowed if its file is in memory
-    /// and need not be hashed; `None` if it has to be read.
+    /// Borrows the kind and the bytes of the object that a tenant sees under this name, if its file is in memory and
+    /// need not be hashed. Otherwise `get` has to read it.
     pub fn lend(&self, tenant: &TenantName, name: Name) -> Option<(Kind, &[u8])>
         ensures found { IfSome result (λ lent. IsTrue self.now.honest × (map.get (private_of self.now.tenants tenant.now).visible name ≡ Some (record { kind = lent.0; bytes = lent.1.now }))) }
         ensures named { IfSome result (λ lent. object_name (record { kind = lent.0; bytes = lent.1.now }) ≡ name) }
@@ -187,7 +188,7 @@ impl<S: LooseFiles> Vault<S> {
         None
     }
 
-    /// The same for an object that a tenant sees or has staged.
+    /// Does the same for an object that a tenant sees or has staged.
     pub fn lend_held(&self, tenant: &TenantName, name: Name) -> Option<(Kind, &[u8])>
         ensures found { IfSome result (λ lent. IsTrue self.now.honest × (map.get (both_of (private_of self.now.tenants tenant.now)) name ≡ Some (record { kind = lent.0; bytes = lent.1.now }))) }
         ensures named { IfSome result (λ lent. object_name (record { kind = lent.0; bytes = lent.1.now }) ≡ name) }
@@ -211,16 +212,16 @@ impl<S: LooseFiles> Vault<S> {
         learn_links(alloc, &mut self.holdings, name, kind, bytes);
     }
 
-    /// Keeps the set of all that these names reach, if the tenant sees all of it and its links are known, so that
-    /// it need not be found again. It does not ask the store.
+    /// Keeps the sets of all objects reachable from these names, so that they need not be walked again. A set is kept
+    /// only if the tenant sees all of it and its links are known. Does not ask the store.
     pub fn keep_reached(&mut self, alloc: Global, tenant: &TenantName, names: &[Name])
         ensures { self.new ≡ self.old }
     {
         self.holdings.keep_reached(alloc, tenant, names);
     }
 
-    /// The names of what a tenant sees that the wanted names reach and the excluded names do not; `None` if the
-    /// links of an object on the way are not known. It does not ask the store.
+    /// The names of the objects that a tenant sees and that are reachable from `wanted` but not from `excluded`, or
+    /// `None` if the links of an object on the way are not known. Does not ask the store.
     pub fn known_between(
         &self,
         alloc: Global,
@@ -237,8 +238,7 @@ impl<S: LooseFiles> Vault<S> {
         self.holdings.between(alloc, tenant, wanted, excluded)
     }
 
-    /// The names of what a tenant sees that parents of commits lead to from the wanted ones, and from none of the
-    /// excluded ones; nothing where the parents of an object on the way are not known. It asks no store.
+    /// The same, following only the parents of commits.
     pub fn known_history(
         &self,
         alloc: Global,
@@ -254,8 +254,8 @@ impl<S: LooseFiles> Vault<S> {
         self.holdings.history(alloc, tenant, wanted, excluded)
     }
 
-    /// The committer's seconds since 1970 of a commit that a tenant sees, and 0 of another object, where they are
-    /// known. It asks no store.
+    /// The committer time of a commit that a tenant sees, in seconds since 1970, or 0 for any other object that it
+    /// sees. Returns `None` if the tenant does not see the object or its links are not known. Does not ask the store.
     pub fn known_seconds(&self, tenant: &TenantName, name: Name) -> Option<u64>
         ensures told { IsTrue self.now.honest → IfSome result (λ seconds. seconds ≡ (note_at (private_of self.now.tenants tenant.now).visible name).seconds) }
 
@@ -272,8 +272,8 @@ impl<S: LooseFiles> Vault<S> {
         Some(time.saturating_sub(1))
     }
 
-    /// The names of the best common ancestors of two commits that a tenant sees; `None` if the parents of one of their
-    /// ancestors are not known. It asks no store.
+    /// The names of the best common ancestors of two commits that a tenant sees, or `None` if the parents of one of
+    /// their ancestors are not known. Does not ask the store.
     pub fn known_bases(
         &mut self,
         alloc: Global,
@@ -290,17 +290,17 @@ impl<S: LooseFiles> Vault<S> {
         self.holdings.bases(alloc, tenant, a, b)
     }
 
-    /// What is known of the object that a tenant sees or has staged under this name. It does not ask the store.
+    /// What is known about the object that a tenant sees or has staged under this name. Does not ask the store.
     pub fn kind_of(&self, tenant: &TenantName, name: Name) -> Option<Held>
         ensures { result ≡ held_in (private_of self.now.tenants tenant.now) name }
     {
         held_of(self.holdings.word(tenant, name))
     }
 
-    /// Stages an object for a tenant. If the tenant has staged one of this name, that one stays; if it sees one,
-    /// that one counts. If there is no file of the name, it is written. A whole file is compared and never
-    /// overwritten. A file that is not whole is overwritten if no tenant holds the name. If some tenant has an
-    /// object of this name with another kind or length, that is reported before anything is read.
+    /// Stages an object for a tenant. If the tenant has staged an object of this name, that one stays. If it sees
+    /// one, that one is staged instead. A missing file is written. A whole file is compared with the object and never
+    /// overwritten. A damaged file is overwritten only if no tenant holds the name. If some tenant holds the name
+    /// with another kind or length, the object is refused before anything is read.
     pub fn stage(
         &mut self,
         alloc: Global,
@@ -324,9 +324,8 @@ impl<S: LooseFiles> Vault<S> {
         stage_whole(alloc, &mut self.files, &mut self.holdings, tenant, sealed)
     }
 
-    /// Stages objects for a tenant, in order, each as `stage` does, all or none: after a fault the tenant has
-    /// staged what it had before. Files that were written before the fault stay until a sweep removes those that
-    /// no tenant holds.
+    /// Stages objects for a tenant, in order, each as `stage` does. On an `Err` none is staged. Files that were
+    /// written before the fault stay until a sweep removes those that no tenant holds.
     pub fn stage_all(
         &mut self,
         alloc: Global,
@@ -352,8 +351,8 @@ impl<S: LooseFiles> Vault<S> {
     }
 
     /// Stages the object of this name for a tenant that saw it before, if a survey of the store found it with this
-    /// kind and length. It does not ask the store. If some tenant has an object of this name with another kind or
-    /// length, it counts as not found.
+    /// kind and length. If some tenant holds the name with another kind or length, the result is `Unknown`. Does not
+    /// ask the store.
     pub fn recall(
         &mut self,
         tenant: &TenantName,
@@ -372,28 +371,28 @@ impl<S: LooseFiles> Vault<S> {
         recall_known(&self.files, &mut self.holdings, tenant, name, kind, length)
     }
 
-    /// Clears the survey.
+    /// Ends the survey. After this, `recall` finds nothing.
     pub fn end_survey(&mut self)
         ensures { self.new ≡ self.old }
     {
         self.files.end_survey();
     }
 
-    /// The names of what a tenant sees, ascending.
+    /// The names of the objects that a tenant sees, in ascending order.
     pub fn names(&self, alloc: Global, tenant: &TenantName) -> Result<Vec<Name>, AllocError>
         ensures { IfOk result (λ names. names.items ≡ map.keys (private_of self.now.tenants tenant.now).visible) }
     {
         self.holdings.names(alloc, tenant)
     }
 
-    /// How many objects a tenant sees, in time linear in what it holds.
+    /// How many objects a tenant sees. Takes time linear in their number.
     pub fn seen_count(&self, tenant: &TenantName) -> usize
         ensures { result ≡ map.len (private_of self.now.tenants tenant.now).visible }
     {
         self.holdings.seen_count(tenant)
     }
 
-    /// The tenant sees what it has staged. It allocates nothing, and does not ask the store.
+    /// Makes what a tenant has staged visible to it. Allocates nothing, and does not ask the store.
     pub fn publish(&mut self, tenant: &TenantName)
         ensures tenants { self.new.tenants ≡ at_tenant self.old.tenants tenant.now with_published }
         ensures store { LeavesStore self.old self.new }
@@ -401,7 +400,7 @@ impl<S: LooseFiles> Vault<S> {
         self.holdings.publish(tenant);
     }
 
-    /// The tenant has staged nothing. It allocates nothing, and does not ask the store.
+    /// Drops what a tenant has staged. Allocates nothing, and does not ask the store.
     pub fn discard(&mut self, tenant: &TenantName)
         ensures tenants { self.new.tenants ≡ at_tenant self.old.tenants tenant.now with_discarded }
         ensures store { LeavesStore self.old self.new }
@@ -409,7 +408,7 @@ impl<S: LooseFiles> Vault<S> {
         self.holdings.discard(tenant);
     }
 
-    /// Of what a tenant sees, only the objects of these names stay. It allocates nothing, and does not ask the
+    /// Drops the objects that a tenant sees, except those with these names. Allocates nothing, and does not ask the
     /// store.
     pub fn keep_only<N: NameSet>(&mut self, tenant: &TenantName, names: &N)
         ensures tenants { self.new.tenants ≡ at_tenant self.old.tenants tenant.now (with_kept (N.names names.now)) }
@@ -418,8 +417,8 @@ impl<S: LooseFiles> Vault<S> {
         self.holdings.keep_only(tenant, names);
     }
 
-    /// Whether the use of what tenant `to` sees, together with the objects of these names that tenant `from` sees, is
-    /// at most `limit`, in time linear in the names.
+    /// Whether the use of what tenant `to` sees, together with the objects with these names that tenant `from` sees,
+    /// is at most `limit` bytes. Takes time linear in the names.
     pub fn has_room(
         &self,
         to: &TenantName,
@@ -432,8 +431,8 @@ impl<S: LooseFiles> Vault<S> {
         self.holdings.has_room(to, from, names, limit)
     }
 
-    /// Tenant `to` comes to see the objects of these names that tenant `from` sees, all or none, in time linear in
-    /// the names. What it has staged stays. It does not ask the store.
+    /// Makes the objects with these names that tenant `from` sees visible to tenant `to`. On an `Err` none becomes
+    /// visible. What `to` has staged stays. Takes time linear in the names. Does not ask the store.
     pub fn adopt(
         &mut self,
         alloc: Global,
@@ -458,23 +457,23 @@ impl<S: LooseFiles> Vault<S> {
         Ok(())
     }
 
-    /// The use of what a tenant sees, in bytes, in constant time after the tenant is looked up.
+    /// The use of the objects that a tenant sees, in bytes. Takes constant time once the tenant is looked up.
     pub fn used(&self, tenant: &TenantName) -> u128
         ensures { result ≡ capped (use_of (private_of self.now.tenants tenant.now).visible) }
     {
         self.holdings.used(tenant)
     }
 
-    /// Whether the use of what a tenant sees and has staged is at most `limit`, in constant time after the tenant is
-    /// looked up.
+    /// Whether the use of what a tenant sees and has staged is at most `limit` bytes. Takes constant time once the
+    /// tenant is looked up.
     pub fn is_within(&self, tenant: &TenantName, limit: u64) -> bool
         ensures { result ≡ nat_le (use_of (both_of (private_of self.now.tenants tenant.now))) limit }
     {
         self.holdings.is_within(tenant, limit)
     }
 
-    /// Looks at up to `most` places of the catalogue, and removes the files of names that no tenant holds. Returns how
-    /// many names were removed. After a fault what was removed until then stays removed.
+    /// Looks at up to `most` places of the catalogue, and removes the names that no tenant holds, with their files.
+    /// Returns how many names were removed. After an `Err`, what was removed stays removed.
     pub fn sweep(&mut self, alloc: Global, most: u64) -> Result<u64, VaultFault>
         ensures kept { IsTrue self.old.honest → self.new.tenants ≡ self.old.tenants }
         ensures stays { IsTrue self.old.honest → (name : List ℕ) → is_taken self.old.tenants name ≡ true → map.get self.new.files name ≡ map.get self.old.files name }
@@ -497,8 +496,8 @@ impl<S: LooseFiles> Vault<S> {
         sweep(alloc, &mut self.files, &mut self.holdings, most)
     }
 
-    /// Looks at each place of the catalogue, from the first to the last, and removes the files of names that no tenant
-    /// holds. Returns how many names were removed. After a fault what was removed until then stays removed.
+    /// Looks at every place of the catalogue, from the first to the last, and removes the names that no tenant holds,
+    /// with their files. Returns how many names were removed. After an `Err`, what was removed stays removed.
     pub fn collect(&mut self, alloc: Global) -> Result<u64, VaultFault>
         ensures kept { IsTrue self.old.honest → self.new.tenants ≡ self.old.tenants }
         ensures stays { IsTrue self.old.honest → (name : List ℕ) → is_taken self.old.tenants name ≡ true → map.get self.new.files name ≡ map.get self.old.files name }
@@ -519,8 +518,8 @@ impl<S: LooseFiles> Vault<S> {
         collect(alloc, &mut self.files, &mut self.holdings)
     }
 
-    /// What is wrong with the files of names that some tenant holds. Each file is read once, from the store and not
-    /// from a cache, and nothing is changed.
+    /// What is wrong with the files of names that tenants hold. Each file is read once, from the store and not from a
+    /// cache. Nothing is changed.
     pub fn faulty(&mut self, alloc: Global) -> Result<Harms, VaultFault>
         ensures sound { IsTrue self.old.honest → IfOk result (λ harms. map.entries harms ≡ []) }
         ensures kept { IsTrue self.old.honest → self.new.tenants ≡ self.old.tenants }
@@ -538,40 +537,42 @@ impl<S: LooseFiles> Vault<S> {
         check_all(alloc, &mut self.files, &self.holdings)
     }
 
-    /// Makes the file of each object that was staged survive a loss of power. After a failure it always fails.
+    /// Makes the file of each object that was staged survive a loss of power. After `Device` every later call fails
+    /// too. After `Memory` it may be called again.
     pub fn sync(&mut self, alloc: Global) -> Result<(), FileFault>
         ensures { self.new ≡ self.old }
     {
         self.files.sync(alloc)
     }
 
-    /// Does some of the work of the next `sync`, if that has much to do. It is called between requests.
+    /// Does some of the work of the next `sync`, if there is much. Call it between requests. After an `Err` every
+    /// later call of `sync` fails.
     pub fn sync_ahead(&mut self, alloc: Global) -> Result<(), FileFault>
         ensures { self.new ≡ self.old }
     {
         self.files.sync_ahead(alloc)
     }
 
-    /// Whether a file that a sweep removed would be back if the store were opened again.
+    /// Whether a file that a sweep removed would come back if the store were opened again.
     pub fn has_removed(&self) -> bool {
         self.files.has_removed()
     }
 
-    /// Makes the removals of sweeps final. After an `Err` some of the removed files may still come back.
+    /// Makes the removals of sweeps final. After an `Err`, some of the removed files may still come back.
     pub fn forget_removed(&mut self, alloc: Global) -> Result<(), FileFault>
         ensures { self.new ≡ self.old }
     {
         self.files.forget_removed(alloc)
     }
 
-    /// How many names the catalogue has.
+    /// The number of names in the catalogue.
     pub fn census(&self) -> u64
         ensures names { result ≡ length self.now.places.names }
     {
         self.holdings.len() as u64
     }
 
-    /// What holds of every vault between calls. It does nothing; proofs call it for its clauses.
+    /// What is true of every vault between calls. It does nothing. Proofs call it for its clauses.
     pub fn invariant(&self)
         ensures place { self.now.places.place ≤ length self.now.places.names }
         ensures distinct { IsDistinct same_name self.now.places.names }

@@ -1,4 +1,4 @@
--- What a walk goes on to from an object, along links or along parents (own).
+-- What a walk follows from an object, along links or along parents (own).
 use Rattle.std.specs.Prelude.{ℕ, Bool, true, false, List, map, Option, None, Some}
 use Rattle.std.specs.FinMap.{get}
 use Rattle.std.specs.Option.{option_map_or}
@@ -12,17 +12,17 @@ use Rattle.fork_reach.specs.Objects.{Measures}
 use Rattle.fork_reach.specs.Reach.{linked_names, parent_names}
 use Rattle.fork_reach.specs.Source.{Objects}
 
--- the names that an object of a kind goes on to
+-- the names that a walk follows from an object of a kind
 abbrev pub names_in : Along → Kind → List ℕ → List (List ℕ)
 names_in Links kind bytes = map (λ link. link.name) (links_in kind bytes)
 names_in Parents kind bytes = parents_in kind bytes
 
--- the names that the object of a name goes on to
+-- the names that a walk follows from the object of a name
 abbrev pub names_along : Along → Objects → List ℕ → List (List ℕ)
 names_along Links objects = linked_names objects
 names_along Parents objects = parent_names objects
 
--- whether an object of a kind goes on to nothing, whatever its bytes are
+-- whether a walk follows nothing from objects of a kind, whatever their bytes are
 abbrev pub rests : Along → Kind → Bool
 rests Links Blob = true
 rests Links Tree = false
@@ -33,11 +33,11 @@ rests Parents Tree = true
 rests Parents Commit = false
 rests Parents Tag = true
 
--- the same where a walk goes along something, and of no kind where it is not said along what
+-- the same if it is known what a walk follows, and else `false`
 abbrev pub rests_in : Option Along → Kind → Bool
 rests_in None kind = false
 rests_in (Some along) kind = rests along kind
 
--- of the object of a name
+-- the same for the object of a name
 abbrev pub rests_at : Option Along → Measures → List ℕ → Bool
 rests_at along measures name = option_map_or (λ m. rests_in along m.0) (get measures name) false

@@ -17,6 +17,6 @@ is_common_of objects a b name = is_ancestor objects b name && is_ancestor object
 abbrev pub is_parent_of : Objects → List ℕ → List ℕ → Bool
 is_parent_of objects commit name = not (bytes_eq commit name) && is_among (parent_names objects commit) name
 
--- whether it is common, and no other common one has it as a parent
+-- whether it is a common ancestor, and no parent of another common one
 abbrev pub is_best_of : Objects → List ℕ → List ℕ → List ℕ → Bool
 is_best_of objects a b name = not (list_any (λ other. is_common_of objects a b other && is_parent_of objects other name) (keys objects)) && is_common_of objects a b name

@@ -1,4 +1,4 @@
--- What asking a source leaves of it, and what its faults may be (own).
+-- What a call leaves of a source, and which faults it may have (own).
 use Rattle.std.specs.Prelude.{◌≡◌, ◌≢◌, ℕ, IsTrue, Option, None, Some}
 use Rattle.git_name.specs.Count.{Rises}
 use Rattle.fork_reach.specs.declared.source.SourceFault.{SourceFault}
@@ -6,14 +6,14 @@ use Rattle.fork_reach.specs.declared.source.SourceFault.TheVariants.{Store, Dama
 use Rattle.fork_reach.specs.Objects.{measures_of}
 use Rattle.fork_reach.specs.Source.{SourceState}
 
--- a failure of the store is counted, and nothing else is
+-- failures of the store are counted, and no other faults
 abbrev pub CountsFault : ℕ → ℕ → Option SourceFault → Type 0
 CountsFault before now None = now ≡ before
 CountsFault before now (Some Store) = Rises before now
 CountsFault before now (Some Damaged) = now ≡ before
 CountsFault before now (Some Memory) = now ≡ before
 
--- what asking a source leaves of it, and which faults may come
+-- what a call leaves of a source, and which faults it may have
 pub record IsAsked {Base Rest : Type 0} (old new : SourceState Base Rest) (fault : Option SourceFault) : Type 0 where
   pub measures : measures_of new.objects ≡ measures_of old.objects
   pub honest : new.honest ≡ old.honest

@@ -1,4 +1,4 @@
--- The history of commits: of each commit its parents, and when it was committed (own).
+-- The history of commits: for each commit its parents, and when it was committed (own).
 use Rattle.std.specs.Prelude.{ℕ, ◌+◌, List, [], Option, None, Some}
 use Rattle.std.specs.List.{zip}
 use Rattle.std.specs.FinMap.{FinMap, from_entries, get}
@@ -11,24 +11,24 @@ use Rattle.git_commit.specs.CommitIn.{commit_in}
 use Rattle.fork_reach.specs.ParentNames.{parents_in}
 use Rattle.fork_reach.specs.Source.{Objects}
 
--- the committer's seconds since 1970; none are 0
+-- the committer's seconds since 1970, or 0 if there is no commit
 abbrev pub seconds_or_zero : Option CommitValue → ℕ
 seconds_or_zero None = 0
 seconds_or_zero (Some commit) = commit.committer.seconds
 
--- those of the commit that bytes of a kind are, and 0 for any other object
+-- the seconds of the commit with these bytes, or 0 for any other object
 abbrev pub seconds_in : Kind → List ℕ → ℕ
 seconds_in Blob bytes = 0
 seconds_in Tree bytes = 0
 seconds_in Commit bytes = seconds_or_zero (commit_in bytes)
 seconds_in Tag bytes = 0
 
--- when a commit was made, so that 0 tells that there is none
+-- the committer's seconds plus 1, or 0 if there is no commit
 abbrev pub time_or_zero : Option CommitValue → ℕ
 time_or_zero None = 0
 time_or_zero (Some commit) = commit.committer.seconds + 1
 
--- the same of the commit that bytes of a kind are
+-- the time of the commit with these bytes, or 0 for any other object
 abbrev pub time_in : Kind → List ℕ → ℕ
 time_in Blob bytes = 0
 time_in Tree bytes = 0
@@ -43,24 +43,24 @@ pub record Note : Type 0 where
 abbrev pub note_of : Object → Note
 note_of object = record { parents = parents_in object.kind object.bytes; seconds = seconds_in object.kind object.bytes }
 
--- the same where there may be no object
+-- the note of an object, if there is one
 abbrev pub note_of_found : Option Object → Note
 note_of_found None = record { parents = []; seconds = 0 }
 note_of_found (Some object) = note_of object
 
--- of the object of a name
+-- the note of the object of a name
 abbrev pub note_at : Objects → List ℕ → Note
 note_at objects name = note_of_found (get objects name)
 
--- the notes of objects under their names
+-- notes by name
 abbrev pub Notes : Type 0
 Notes = FinMap name_cmp Note
 
--- those of names and of what is noted of each, at the same places
+-- the notes of these names, each at the same place as its name
 abbrev pub notes_under : List (List ℕ) → List Note → Notes
 notes_under names notes = from_entries (zip names notes)
 
--- the parents that are noted under a name
+-- the parents in a note, or none if there is no note
 abbrev pub parents_of_noted : Option Note → List (List ℕ)
 parents_of_noted None = []
 parents_of_noted (Some note) = note.parents

@@ -1,4 +1,4 @@
--- The best common ancestors as a history in memory tells them: by one step along parents (own).
+-- Best common ancestors in a history in memory, by one step along parents (own).
 use Rattle.std.specs.Prelude.{ℕ, ◌&&◌, not, Bool, List, [], ◌∷◌}
 use Rattle.std.specs.List.{list_any}
 use Rattle.std.specs.Str.{bytes_eq}
@@ -16,6 +16,6 @@ is_common_noted notes a b name = is_ancestor_noted notes b name && is_ancestor_n
 abbrev pub is_other_parent : Notes → List ℕ → List ℕ → Bool
 is_other_parent notes name commit = not (bytes_eq commit name) && is_among (noted_parents notes commit) name
 
--- whether it is common, and no other common one has it as a parent
+-- whether it is a common ancestor, and no parent of another common one
 abbrev pub is_best_noted : Notes → List ℕ → List ℕ → List ℕ → Bool
 is_best_noted notes a b name = not (list_any (λ other. is_common_noted notes a b other && is_other_parent notes name other) (keys notes)) && is_common_noted notes a b name

@@ -5,12 +5,12 @@ use Rattle.git_name.specs.declared.kind.Kind.TheVariants.{Blob, Tree, Commit, Ta
 use Rattle.git_commit.specs.Commit.{CommitValue}
 use Rattle.git_commit.specs.CommitIn.{commit_in}
 
--- the parents of a commit, where there is one
+-- the parents of a commit, if there is one
 abbrev pub parents_or_none : Option CommitValue → List (List ℕ)
 parents_or_none None = []
 parents_or_none (Some commit) = commit.parents
 
--- the parents of the commit that bytes of a kind are; any other object has none
+-- the parents of the commit with these bytes; any other object has none
 abbrev pub parents_in : Kind → List ℕ → List (List ℕ)
 parents_in Blob bytes = []
 parents_in Tree bytes = []

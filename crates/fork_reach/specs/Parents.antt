@@ -3,7 +3,7 @@ use Rattle.std.specs.Prelude.{ℕ, List, [], ◌∷◌}
 use Rattle.fork_reach.specs.declared.parents.Parents.{Parents}
 use Rattle.fork_reach.specs.declared.parents.Parents.TheVariants.{Root, One, Merge}
 
--- their names, in their order
+-- the names of the parents, in order
 abbrev pub parents_listed : Parents → List (List ℕ)
 parents_listed Root = []
 parents_listed (One parent) = parent ∷ []

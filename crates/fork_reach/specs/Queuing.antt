@@ -1,11 +1,11 @@
--- Names in a queue, each once, which is walked from its front on (own).
+-- A queue of names, each once, which is walked from the front (own).
 use Rattle.std.specs.Prelude.{◌≡◌, ℕ, false, List, [], ◌++◌}
 use Rattle.std.specs.FinMap.{FinMap}
 use Rattle.git_name.specs.Name.{name_cmp}
 use Rattle.git_name.specs.Same.{is_listed}
 use Rattle.fork_reach.specs.Seeing.{Sees}
 
--- names were queued: those came behind the others that are there and did not stand among them
+-- names were queued: those that are there and were not yet in the queue were appended
 pub record Queues {X : Type 0} (objects : FinMap name_cmp X) (names queue now_queue : List (List ℕ)) : Type 0 where
   pub came : List (List ℕ)
   pub behind : now_queue ≡ queue ++ came

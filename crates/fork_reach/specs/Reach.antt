@@ -1,4 +1,4 @@
--- What a walk over objects reaches (own): from some roots on, along links or along parents.
+-- What a walk over objects reaches (own): from roots, along links or along parents.
 use Rattle.std.specs.Prelude.{◌≡◌, ℕ, zero, suc, ◌&&◌, ◌||◌, not, Bool, true, List, [], map, Contains, Option, None, Some}
 use Rattle.std.specs.List.{list_any}
 use Rattle.std.specs.FinMap.{FinMap, get, contains_key, keys, len}
@@ -10,21 +10,21 @@ use Rattle.git_object.specs.declared.link.Link.{Link}
 use Rattle.git_object.specs.ObjectIn.{links_in}
 use Rattle.fork_reach.specs.Source.{Objects}
 
--- the links of an object, where there is one
+-- the links of an object, if there is one
 abbrev pub links_of_found : Option Object → List Link
 links_of_found None = []
 links_of_found (Some object) = links_in object.kind object.bytes
 
--- the names that the object of a name links to, in their order
+-- the names that the object of a name links to, in order
 abbrev pub linked_names : Objects → List ℕ → List (List ℕ)
 linked_names objects name = map (λ link. link.name) (links_of_found (get objects name))
 
--- the parents of an object, where there is one
+-- the parents of an object, if there is one
 abbrev pub parents_of_found : Option Object → List (List ℕ)
 parents_of_found None = []
 parents_of_found (Some object) = parents_in object.kind object.bytes
 
--- the names of the parents of the commit of a name, in their order
+-- the names of the parents of the commit of a name, in order
 abbrev pub parent_names : Objects → List ℕ → List (List ℕ)
 parent_names objects name = parents_of_found (get objects name)
 
@@ -37,17 +37,17 @@ pub data IsReached {X : Type 0} (next : List ℕ → List (List ℕ)) (objects :
 abbrev pub is_among : List (List ℕ) → List ℕ → Bool
 is_among names name = list_any (bytes_eq name) names
 
--- whether a name is reached from a root in so many steps at the most, over objects that are there
+-- whether a name is reached from a root in at most this many steps, over objects that are there
 abbrev pub leads_within : {X : Type 0} → (List ℕ → List (List ℕ)) → FinMap name_cmp X → List (List ℕ) → ℕ → List ℕ → Bool
 leads_within next objects roots zero name = contains_key objects name && is_among roots name
 leads_within next objects roots (suc most) name =
     leads_within next objects roots most name
     || contains_key objects name && list_any (λ from. leads_within next objects roots most from && is_among (next from) name) (keys objects)
 
--- whether it is reached at all: no more steps are needed than there are objects
+-- whether a name is reached at all: no more steps are needed than there are objects
 unfoldable pub is_reached : {X : Type 0} → (List ℕ → List (List ℕ)) → FinMap name_cmp X → List (List ℕ) → List ℕ → Bool
 is_reached next objects roots name = leads_within next objects roots (len objects) name
 
--- whether a name is reached from the wanted ones, and from none of the excluded ones
+-- whether a name is reached from a wanted one, and from no excluded one
 abbrev pub is_between : {X : Type 0} → (List ℕ → List (List ℕ)) → FinMap name_cmp X → List (List ℕ) → List (List ℕ) → List ℕ → Bool
 is_between next objects wanted excluded name = is_reached next objects wanted name && not (is_reached next objects excluded name)

@@ -4,11 +4,11 @@ use Rattle.std.specs.List.{count_by}
 use Rattle.std.specs.FinMap.{FinMap, contains_key, keys}
 use Rattle.git_name.specs.Name.{name_cmp}
 
--- how many of the names that are there are not seen
+-- how many of the objects are not seen
 abbrev pub unseen : {X : Type 0} → FinMap name_cmp X → (List ℕ → Bool) → ℕ
 unseen objects seen = count_by (λ name. not (seen name)) (keys objects)
 
--- names were seen to: those that are there are seen now, and those that are new wait, unless they go on to nothing
+-- names were visited: those that are there are seen now, and the new ones wait unless a walk ends at them
 pub record Sees {X : Type 0} (objects : FinMap name_cmp X) (ends : List ℕ → Bool) (names : List (List ℕ)) (seen : List ℕ → Bool) (waits : List (List ℕ)) (now_seen : List ℕ → Bool) (now_waits : List (List ℕ)) : Type 0 where
   pub kept : (name : List ℕ) → seen name ≡ true → now_seen name ≡ true
   pub stays : (name : List ℕ) → Contains waits name → Contains now_waits name

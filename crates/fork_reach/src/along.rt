@@ -13,13 +13,13 @@ use std::alloc::{AllocError, Global};
 // The links that a walk follows.
 #[derive(Clone, Copy)]
 pub(crate) enum Along {
-    // Each link of each object.
+    // All links of all objects.
     Links,
     // Only the parents of commits.
     Parents,
 }
 
-// Whether objects of this kind can have links.
+// Whether a walk can follow links of objects of this kind.
 fn goes_on(along: Along, kind: Kind) -> bool
     ensures { result ≡ not (rests along kind) }
 {
@@ -31,7 +31,7 @@ fn goes_on(along: Along, kind: Kind) -> bool
     }
 }
 
-// The same for the links that a walk follows.
+// Does the same, or returns `true` if it is not known which links a walk follows.
 pub(crate) fn goes_on_in(along: Option<Along>, kind: Kind) -> bool
     ensures { result ≡ not (rests_in along kind) }
 {
@@ -41,7 +41,8 @@ pub(crate) fn goes_on_in(along: Option<Along>, kind: Kind) -> bool
     }
 }
 
-/// The names of the object's links, in their order. If its bytes do not fit the grammar of its kind, there are none.
+/// The names that an object links to, in order. An object whose bytes do not fit the grammar of its kind has no
+/// links.
 pub fn link_names(alloc: Global, kind: Kind, bytes: &[u8]) -> Result<Vec<Name>, AllocError>
     ensures { IfOk result (λ names. names.items ≡ map (λ link. link.name) (links_in kind bytes.now)) }
 {
@@ -55,7 +56,7 @@ pub fn link_names(alloc: Global, kind: Kind, bytes: &[u8]) -> Result<Vec<Name>, 
     Ok(names)
 }
 
-// The names that a walk goes on to from the object.
+// The names that a walk follows from an object.
 fn names_of(alloc: Global, along: Along, kind: Kind, bytes: &[u8]) -> Result<Vec<Name>, AllocError>
     ensures { IfOk result (λ names. names.items ≡ names_in along kind bytes.now) }
 {
@@ -65,8 +66,8 @@ fn names_of(alloc: Global, along: Along, kind: Kind, bytes: &[u8]) -> Result<Vec
     }
 }
 
-// The names that a walk goes on to from the object of this name. It is borrowed, and the source learns its links, or it
-// is read once.
+// The names that a walk follows from the object of this name. If the object can be borrowed, the source learns its
+// links. Otherwise it is read once.
 pub(crate) fn next_names<S: Source>(
     alloc: Global,
     source: &mut S,

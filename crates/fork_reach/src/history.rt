@@ -15,8 +15,7 @@ use nearby::Nearby;
 use std::alloc::{AllocError, Global};
 use std::marker::Model;
 
-/// Commits in memory, each with its parents and its time, at the place of its name. Contracts see a map from names
-/// to notes.
+/// Commits in memory, each with its parents and its time. Contracts see a map from names to notes.
 #[derive(Drop)]
 pub struct History {
     names: IndexSet<Name, Hashing>,
@@ -41,7 +40,7 @@ impl Model for History {
 }
 
 impl History {
-    // The commits of these names, each with its note at the same place.
+    // The history of these names, each with its note at the same place.
     pub(crate) fn of(names: IndexSet<Name, Hashing>, notes: Vec<Noted>) -> History
         requires { length notes.items ≡ length names.keys }
         ensures { result ≡ notes_under names.keys notes.items }
@@ -53,7 +52,7 @@ impl History {
         }
     }
 
-    /// The names of the commits, in no particular order, and the note of each, at the same place.
+    /// The names of the commits, in no particular order, and for each its note, at the same place.
     pub fn commits(&self) -> (&[Name], &[Noted])
         ensures entries { IsPermutation (map.entries self.now) (zip result.0.now result.1.now) }
         ensures each { length result.1.now ≡ length result.0.now }
@@ -61,8 +60,8 @@ impl History {
         (self.names.as_slice(), self.notes.as_slice())
     }
 
-    /// The names of the common ancestors of the two commits that are not a parent of another one. It reads no object. It
-    /// hashes the names that it returns, and those that are not near the one before.
+    /// The names of the best common ancestors of two commits: those that are not a parent of another common ancestor.
+    /// Reads no object. Hashes the names that it returns, and each name that is not near the one before.
     pub fn best_common(
         &self,
         alloc: Global,

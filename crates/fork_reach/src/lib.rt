@@ -1,6 +1,6 @@
-//! Sources of objects by their names, and which objects are reached from some.
-//! A `Source` answers as a finite map does, and knows a kind without reading bytes. What is reached is all that
-//! links, or parents, lead to, and nothing else.
+//! Sources of objects by their names, and the objects reachable in them. A `Source` behaves like a finite map, and
+//! knows the kind of an object without reading its bytes. A walk finds all objects that links, or parents, lead to,
+//! and no others.
 #![tactic(auto)]
 
 mod along;

@@ -12,7 +12,7 @@ use crate::source::Source;
 use git_name::{Hashing, Name};
 use indexmap::IndexSet;
 
-// Names to which a walk may go.
+// The names that a walk may visit.
 pub(crate) trait Names {
     // The objects.
     ghost Of: { Type 0 };
@@ -23,14 +23,14 @@ pub(crate) trait Names {
     // The names at which a walk ends.
     ghost ends: { Self → List ℕ → Bool };
 
-    // Whether a walk goes on from a name, if it may visit the name.
+    // Whether a walk goes on from a name, or `None` if it may not visit the name.
     fn leads(&self, name: Name) -> Option<bool>
         ensures there { is_some result ≡ map.contains_key (names self.now) name }
         ensures ends { IfSome result (λ leads. leads ≡ false → ends self.now name ≡ true) };
 }
 
-// The objects of a source, except those of these names. If it is known which links a walk follows, the walk does not go
-// on from kinds that have none.
+// The objects of a source, except the hidden ones. If it is known which links a walk follows, the walk does not go on
+// from kinds without such links.
 #[derive(Drop)]
 pub(crate) struct Open<'a, S> {
     pub(crate) source: &'a S,
@@ -38,7 +38,7 @@ pub(crate) struct Open<'a, S> {
     pub(crate) along: Option<Along>,
 }
 
-// Whether the name is hidden. If no name is, none is hashed.
+// Whether the name is hidden. If no names are hidden, the name is not hashed.
 pub(crate) fn is_hidden(hidden: &IndexSet<Name, Hashing>, name: Name) -> bool
     ensures { result ≡ contains same_name hidden.now name }
 {

@@ -8,8 +8,8 @@ use git_name::{Kind, Name};
 use std::alloc::{AllocError, Global};
 use std::marker::Model;
 
-/// What a history keeps of a commit: its parents in their order, and the committer's seconds since 1970. For any
-/// other object it keeps no parents, and 0.
+/// What a history keeps of a commit: its parents, in order, and the committer's seconds since 1970. Any other object
+/// has no parents, and 0 seconds.
 #[derive(Debug, Drop)]
 pub struct Noted {
     parents: Parents,
@@ -26,7 +26,7 @@ impl Model for Noted {
 }
 
 impl Noted {
-    // For an object that is not a commit.
+    // The note of an object that is not a commit.
     pub(crate) fn none() -> Noted
         ensures { result ≡ record { parents = []; seconds = 0 } }
     {
@@ -36,7 +36,7 @@ impl Noted {
         }
     }
 
-    // For a commit.
+    // The note of a commit.
     fn of_commit(alloc: Global, commit: &Commit<'_>) -> Result<Noted, AllocError>
         ensures { IfOk result (λ noted. noted ≡ record { parents = (commit_of commit.now).parents; seconds = (commit_of commit.now).committer.seconds }) }
     {
@@ -47,7 +47,7 @@ impl Noted {
         })
     }
 
-    // For an object of this kind and these bytes.
+    // The note of an object of this kind with these bytes.
     pub(crate) fn of(alloc: Global, kind: Kind, bytes: &[u8]) -> Result<Noted, AllocError>
         ensures { IfOk result (λ noted. noted ≡ note_of (record { kind = kind; bytes = bytes.now })) }
     {
@@ -60,7 +60,7 @@ impl Noted {
         }
     }
 
-    /// The names of the parents, in their order.
+    /// The names of the parents, in order.
     pub fn parents(&self) -> &[Name]
         ensures { result.now ≡ self.now.parents }
     {

@@ -13,8 +13,9 @@ use git_name::{Hashing, Name};
 use indexmap::IndexSet;
 use std::alloc::AllocError;
 
-// Marks the name as seen, if it is there and was not seen yet, and has it wait, if a walk goes on from it. It is added
-// first, and removed again if it is hidden or not there, since each look-up hashes the name again.
+// Adds the name to `seen` if it is there and was not yet seen, and to `waiting` if a walk goes on from it. The name
+// is added first, and removed again if it is hidden or not there. This saves a look-up, which would hash the name a
+// second time.
 fn note<N: Names>(
     there: &N,
     name: Name,
@@ -41,7 +42,7 @@ fn note<N: Names>(
     Ok(())
 }
 
-// The same for each of these names.
+// Does the same for each of these names.
 fn note_all<N: Names>(
     there: &N,
     names: &[Name],
@@ -56,7 +57,7 @@ fn note_all<N: Names>(
     Ok(())
 }
 
-// The same over the objects of a source of which some are hidden.
+// Does the same over the objects of a source, except the hidden ones.
 pub(crate) fn note_open<S: Source>(
     source: &S,
     hidden: &IndexSet<Name, Hashing>,

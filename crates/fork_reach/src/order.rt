@@ -19,7 +19,7 @@ fn listed(alloc: Global, names: &IndexSet<Name, Hashing>) -> Result<Vec<Name>, A
     names.iter().copied().collect(alloc)
 }
 
-/// The names of a set, ascending.
+/// The names of a set, in ascending order.
 pub fn ascending(alloc: Global, names: &IndexSet<Name, Hashing>) -> Result<Vec<Name>, AllocError>
     ensures order { IfOk result (λ list. IsStrictlySortedBy name_cmp list.items) }
     ensures same { IfOk result (λ list. (name : List ℕ) → is_among list.items name ≡ contains same_name names.now name) }

@@ -7,10 +7,10 @@ use git_commit::Commit;
 use git_name::{Kind, Name};
 use std::alloc::{AllocError, Global};
 
-// Most commits have so many parents, so room is first made for no more.
+// Most commits have this many parents, so this is the room to begin with.
 const USUAL: usize = 1;
 
-// The names of a commit's parents, in their order.
+// The names of a commit's parents, in order.
 pub(crate) fn parents_of(alloc: Global, commit: &Commit<'_>) -> Result<Vec<Name>, AllocError>
     ensures { IfOk result (λ names. names.items ≡ (commit_of commit.now).parents) }
 {
@@ -21,7 +21,7 @@ pub(crate) fn parents_of(alloc: Global, commit: &Commit<'_>) -> Result<Vec<Name>
     Ok(names)
 }
 
-// The same of the object of this kind and these bytes. If it is not a commit, it has none.
+// The names of the parents of an object of this kind with these bytes, in order. Only commits have parents.
 pub(crate) fn parent_names(alloc: Global, kind: Kind, bytes: &[u8]) -> Result<Vec<Name>, AllocError>
     ensures { IfOk result (λ names. names.items ≡ parents_in kind bytes.now) }
 {

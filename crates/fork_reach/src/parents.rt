@@ -8,8 +8,7 @@ use git_name::Name;
 use std::alloc::{AllocError, Global};
 use std::slice;
 
-// The names of a commit's parents, in their order. Most commits have one, which is kept here and needs no memory of its
-// own.
+// The names of a commit's parents, in order. Most commits have one, which is kept inline and allocates nothing.
 #[derive(Debug, Drop)]
 pub(crate) enum Parents {
     Root,
@@ -18,7 +17,7 @@ pub(crate) enum Parents {
 }
 
 impl Parents {
-    // Those of a commit.
+    // The parents of a commit.
     pub(crate) fn of(alloc: Global, commit: &Commit<'_>) -> Result<Parents, AllocError>
         ensures { IfOk result (λ parents. parents_listed parents ≡ (commit_of commit.now).parents) }
     {
@@ -32,7 +31,7 @@ impl Parents {
         Ok(Parents::Merge(parents_of(alloc, commit)?))
     }
 
-    // All of them.
+    // The parents as a slice.
     pub(crate) fn as_slice(&self) -> &[Name]
         ensures { result.now ≡ parents_listed self.now }
     {

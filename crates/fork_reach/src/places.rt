@@ -12,8 +12,8 @@ use indexmap::IndexSet;
 use nearby::Nearby;
 use std::alloc::{AllocError, Global};
 
-// The commits of a history, each at the place of its name. What is found of them is kept as flags at these places, so a
-// name is hashed only if it is not near the one before.
+// The commits of a history, each at the place of its name. A walk keeps its findings as flags at these places, so
+// that it hashes a name only if it is not near the one before.
 #[derive(Drop)]
 pub(crate) struct Places<'a> {
     pub(crate) names: &'a IndexSet<Name, Hashing>,
@@ -21,7 +21,7 @@ pub(crate) struct Places<'a> {
     pub(crate) notes: &'a [Noted],
 }
 
-// Keeps only the flags that are also set among the others.
+// Clears the flags that are not set among the others.
 fn keep_among(marks: &mut [bool], others: &[bool])
     requires { length others.now ≡ length marks.old }
     ensures each { (at : ℕ) → slice_index_or marks.new at false ≡ (slice_index_or others.now at false && slice_index_or marks.old at false) }
@@ -44,7 +44,7 @@ fn take_out(marks: &mut [bool], others: &[bool])
 }
 
 impl<'a> Places<'a> {
-    // Sets the flag of the name, and has its place wait, if the name has a place and its flag is not set yet.
+    // If the name has a place and its flag is not yet set, sets the flag and adds the place to `waiting`.
     fn mark(
         &self,
         name: Name,
@@ -65,7 +65,7 @@ impl<'a> Places<'a> {
         Ok(())
     }
 
-    // The same for each of these names.
+    // Does the same for each of these names.
     fn mark_all(
         &self,
         names: &[Name],
@@ -81,7 +81,7 @@ impl<'a> Places<'a> {
         Ok(())
     }
 
-    // The names of the parents of the commit at a place, in their order.
+    // The names of the parents of the commit at a place, in order.
     fn parents(&self, at: usize) -> &[Name]
         ensures { result.now ≡ parents_of_noted (slice_get self.now.notes.now at) }
     {
@@ -110,7 +110,7 @@ impl<'a> Places<'a> {
         Ok(marks)
     }
 
-    // The flags of the common ancestors of both.
+    // The flags of the common ancestors of two commits.
     fn common(&self, alloc: Global, a: Name, b: Name) -> Result<Vec<bool>, AllocError>
         requires { length self.now.notes.now ≡ length self.now.names.now.keys }
         ensures marked { IfOk result (λ marks. (name : List ℕ) → is_marked self.now.names.now.keys marks.items name ≡ is_common_noted (notes_under self.now.names.now.keys self.now.notes.now) a b name) }
@@ -122,7 +122,7 @@ impl<'a> Places<'a> {
         Ok(common)
     }
 
-    // Sets the flag of the name, if it has a place.
+    // Sets the flag of the name if it has a place.
     fn put(&self, name: Name, marks: &mut [bool])
         requires { length marks.old ≡ length self.now.names.now.keys }
         ensures marked { (other : List ℕ) → contains same_name self.now.names.now other ≡ true → is_marked self.now.names.now.keys marks.new other ≡ cond (same_name name other) true (is_marked self.now.names.now.keys marks.old other) }
@@ -133,7 +133,7 @@ impl<'a> Places<'a> {
         }
     }
 
-    // Sets the flags of the parents of the commit at a place, except its own.
+    // Sets the flags of the parents of the commit at a place. A parent that is the commit itself is skipped.
     fn put_parents(&self, at: usize, marks: &mut [bool])
         requires place { at < length self.now.names.now.keys }
         requires notes { length self.now.notes.now ≡ length self.now.names.now.keys }
@@ -186,8 +186,8 @@ impl<'a> Places<'a> {
         Ok(names)
     }
 
-    // The common ancestors of both that are not a parent of another one. Since the parents of common ancestors are
-    // common, these are the best ones.
+    // The common ancestors of two commits that are not a parent of another common ancestor. These are the best ones,
+    // since all parents of common ancestors are common ancestors.
     pub(crate) fn best_common(
         &self,
         alloc: Global,

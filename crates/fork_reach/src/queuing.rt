@@ -11,8 +11,8 @@ use git_name::{Hashing, Name};
 use indexmap::IndexSet;
 use std::alloc::AllocError;
 
-// Appends the name to the queue, if it is there and not in the queue yet. It is added first, and removed again if it is
-// hidden or not there, since each look-up hashes the name again.
+// Appends the name to the queue if it is there and not yet in the queue. The name is added first, and removed again
+// if it is hidden or not there. This saves a look-up, which would hash the name a second time.
 fn queue<N: Names>(
     there: &N,
     name: Name,
@@ -34,7 +34,7 @@ fn queue<N: Names>(
     Ok(())
 }
 
-// The same for each of these names.
+// Does the same for each of these names.
 fn queue_all<N: Names>(
     there: &N,
     more: &[Name],
@@ -48,7 +48,7 @@ fn queue_all<N: Names>(
     Ok(())
 }
 
-// The same over the objects of a source of which some are hidden.
+// Does the same over the objects of a source, except the hidden ones.
 pub(crate) fn queue_open<S: Source>(
     source: &S,
     hidden: &IndexSet<Name, Hashing>,

@@ -14,7 +14,7 @@ use git_name::{Hashing, Name};
 use indexmap::IndexSet;
 use std::alloc::Global;
 
-// The names that these roots reach. If there are no roots, nothing is asked.
+// The names reachable from these roots. Without roots, the source is not asked.
 fn walk_all<S: Source>(
     alloc: Global,
     source: &mut S,
@@ -31,8 +31,8 @@ fn walk_all<S: Source>(
     walk(alloc, source, Along::Links, roots, &none)
 }
 
-// The same by links that the source knows; `None` if it does not know all. What the excluded names reach is kept for the
-// next time.
+// The names reachable from `wanted` but not from `excluded`, or `None` if the source does not know all links. What is
+// reachable from `excluded` is kept for the next time.
 fn known_between<S: Source>(
     alloc: Global,
     source: &mut S,
@@ -51,8 +51,8 @@ fn known_between<S: Source>(
     }
 }
 
-// What the wanted names reach and the excluded ones do not. The excluded ones are walked first, and the walk from the
-// wanted ones stops there.
+// The names reachable from `wanted` but not from `excluded`. The excluded ones are walked first, and the walk from
+// the wanted ones stops there.
 fn walk_between<S: Source>(
     alloc: Global,
     source: &mut S,
@@ -68,9 +68,9 @@ fn walk_between<S: Source>(
     walk(alloc, source, Along::Links, wanted, &hidden)
 }
 
-/// The names of the source's objects that the wanted names reach and the excluded ones do not, with the wanted ones
-/// that it finds. Names that it does not find are ignored. If the source knows all links on the way, nothing is
-/// read. Otherwise each tree, commit and tag is borrowed or read once, and a blob never.
+/// The names of the source's objects that are reachable from `wanted` but not from `excluded`. Names that the source
+/// does not find are ignored. If the source knows all links on the way, nothing is read. Otherwise each tree, commit
+/// and tag is borrowed or read once, and a blob never.
 pub fn reach_between<S: Source>(
     alloc: Global,
     source: &mut S,
@@ -89,8 +89,8 @@ pub fn reach_between<S: Source>(
     walk_between(alloc, source, wanted, excluded)
 }
 
-/// The names of the source's objects that these roots reach, with the roots that it finds. Roots that it does not find
-/// are ignored. If the source knows all links on the way, nothing is read. Otherwise each tree, commit and tag is
+/// The names of the source's objects that are reachable from these roots. Roots that the source does not find are
+/// ignored. If the source knows all links on the way, nothing is read. Otherwise each tree, commit and tag is
 /// borrowed or read once, and a blob never.
 pub fn reach<S: Source>(
     alloc: Global,
@@ -106,8 +106,8 @@ pub fn reach<S: Source>(
     reach_between(alloc, source, roots, &[])
 }
 
-/// The names of the source's commits that are ancestors of these, with those of these that it finds. The others are
-/// ignored. Each commit is read once, and nothing else.
+/// The names of the source's commits that are ancestors of these commits. A commit is its own ancestor. Names that
+/// the source does not find are ignored. Each commit is borrowed or read once, and nothing else is.
 pub fn ancestors<S: Source>(
     alloc: Global,
     source: &mut S,

@@ -19,7 +19,7 @@ use git_name::{Hashing, Kind, Name};
 use indexmap::IndexSet;
 use std::alloc::Global;
 
-// Whether the object of this name is a commit. It does not read its bytes.
+// Whether the object of this name is a commit. Does not read its bytes.
 fn is_commit<S: Source>(source: &S, name: Name) -> bool
     ensures { OnFalse result (kind_in (S.state source.now).objects name ≢ Some Kind.Commit) }
 {
@@ -29,8 +29,8 @@ fn is_commit<S: Source>(source: &S, name: Name) -> bool
     }
 }
 
-// The note of the object of this name. It is borrowed, and the source learns its links, or it is read at most once. It is
-// not read if it is not a commit.
+// The note of the object of this name. If the object can be borrowed, the source learns its links. Otherwise it is
+// read once if it is a commit, and not at all if it is not.
 fn noted<S: Source>(alloc: Global, source: &mut S, name: Name) -> Result<Noted, SourceFault>
     ensures noted { IsTrue (S.state source.old).honest → IfOk result (λ noted. noted ≡ note_at (S.state source.old).objects name) }
     ensures asked { IsAsked (S.state source.old) (S.state source.new) (fault_in result) }
@@ -54,9 +54,10 @@ fn noted<S: Source>(alloc: Global, source: &mut S, name: Name) -> Result<Noted, 
     }
 }
 
-/// The ancestors of these commits, with those of these that the source finds, not going through hidden names. Each is
-/// read once, for its parents and its time. They are read in the order in which they are found, so the names of the
-/// history are themselves the queue of what to read.
+/// The ancestors of these commits that can be reached without passing through hidden names. A commit is its own
+/// ancestor. Names that the source does not find are ignored. Each commit is borrowed or read once, for its parents
+/// and its time. Commits are read in the order in which they are found, so that the names of the history are also the
+/// queue of what to read.
 pub fn read_history<S: Source>(
     alloc: Global,
     source: &mut S,

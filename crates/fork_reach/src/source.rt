@@ -27,26 +27,26 @@ pub enum SourceFault {
     Memory,
 }
 
-/// Finds objects by their names, as a finite map does.
+/// A source of objects, which finds them by their names as a finite map does.
 pub trait Source {
-    /// What every call leaves as it is, over any store.
+    /// What no call changes, over any store.
     ghost Base: { Type 0 };
 
-    /// What every call leaves as it is, over an honest store.
+    /// What no call changes, over an honest store.
     ghost Rest: { Type 0 };
 
-    /// What it shows. Over a store that does not return what was written to it, the names, kinds and lengths of its
-    /// objects stay the same, and no bytes are returned under a false name.
+    /// What the source shows. Over a store that does not return what was written to it, the names, kinds and lengths
+    /// of the objects stay the same, and no bytes are returned under a false name.
     ghost state: { Self → SourceState Base Rest };
 
-    /// How to hash its names in a walk.
+    /// The hashing of names in a walk.
     fn hashing(&self) -> Hashing;
 
-    /// The kind of the object of this name. It does not read its bytes.
+    /// The kind of the object of this name. Does not read its bytes.
     fn kind_of(&self, name: Name) -> Option<Kind>
         ensures { result ≡ kind_in (state self.now).objects name };
 
-    /// The kind and the bytes of the object of this name, borrowed; `None` if it has to be read.
+    /// Borrows the kind and the bytes of the object of this name, or returns `None` if it has to be read.
     fn lend(&self, name: Name) -> Option<(Kind, &[u8])>
         ensures found { IfSome result (λ lent. IsTrue (state self.now).honest × (map.get (state self.now).objects name ≡ Some (record { kind = lent.0; bytes = lent.1.now }))) }
         ensures named { IfSome result (λ lent. object_name (record { kind = lent.0; bytes = lent.1.now }) ≡ name) }
@@ -62,8 +62,8 @@ pub trait Source {
         ensures named { IfOk result (λ found. IfSome found (λ object. object_name object ≡ name)) }
         ensures asked { IsAsked (state self.old) (state self.new) (fault_in result) };
 
-    /// The names of its objects that the wanted ones reach and the excluded ones do not; `None` if it does not know all
-    /// links on the way. It reads nothing.
+    /// The names of the objects that are reachable from `wanted` but not from `excluded`, or `None` if the source
+    /// does not know all links on the way. Reads nothing.
     fn known_between(
         &self,
         alloc: Global,
@@ -81,8 +81,7 @@ pub trait Source {
         Ok(None)
     }
 
-    /// The names of its objects that parents of commits lead to from the wanted ones, and from none of the excluded
-    /// ones; nothing if it does not know the parents of all that is on the way. It reads nothing.
+    /// The same, following only the parents of commits.
     fn known_history(
         &self,
         alloc: Global,
@@ -100,8 +99,8 @@ pub trait Source {
         Ok(nothing)
     }
 
-    /// The names of the common ancestors of two commits that are not a parent of another one; `None` if it does not know
-    /// the parents of all their ancestors. It reads nothing, and what the source shows stays.
+    /// The names of the best common ancestors of two commits: those that are not a parent of another common ancestor.
+    /// Returns `None` if the source does not know the parents of all their ancestors. Reads nothing.
     fn known_bases(
         &mut self,
         alloc: Global,
@@ -120,8 +119,8 @@ pub trait Source {
         Ok(unknown)
     }
 
-    /// The committer's seconds since 1970 of the commit of this name, and 0 of another object, if it knows them. It
-    /// reads nothing.
+    /// The committer's seconds since 1970 of the commit of this name, or 0 for any other object. Returns `None` if
+    /// the source does not know them. Reads nothing.
     fn known_seconds(&self, name: Name) -> Option<u64>
         ensures told { IsTrue (state self.now).honest → IfSome result (λ seconds. seconds ≡ (note_at (state self.now).objects name).seconds) }
         // Over any store.
@@ -131,8 +130,7 @@ pub trait Source {
         None
     }
 
-    /// Learns the links of the object of this name, if its bytes can be borrowed. It reads nothing, and what the source
-    /// shows stays.
+    /// Learns the links of the object of this name, if its bytes can be borrowed. Reads nothing.
     fn learn_links(&mut self, alloc: Global, name: Name)
         ensures asked { IsAsked (state self.old) (state self.new) None }
     {
@@ -140,8 +138,8 @@ pub trait Source {
         let _name = name;
     }
 
-    /// Keeps the sets of all that these names reach, if it knows the links, so that it need not find them again. It
-    /// reads nothing, and what the source shows stays.
+    /// Keeps the sets of all objects reachable from these names, if it knows the links, so that they need not be
+    /// walked again. Reads nothing.
     fn keep_reached(&mut self, alloc: Global, names: &[Name])
         ensures asked { IsAsked (state self.old) (state self.new) None }
     {

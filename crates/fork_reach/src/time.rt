@@ -4,8 +4,8 @@ ghost use Rattle.fork_reach.specs.History.{time_in};
 use git_commit::Commit;
 use git_name::Kind;
 
-/// When a commit with these bytes was made: the committer's seconds since 1970 plus 1. It is 0 for any other kind, and
-/// `None` if it does not fit a word.
+/// The time of an object of this kind with these bytes: for a commit, the committer's seconds since 1970 plus 1. It
+/// is 0 for any other object, and `None` if it does not fit in 64 bits.
 pub fn time_of(kind: Kind, bytes: &[u8]) -> Option<u64>
     ensures { IfSome result (λ time. time ≡ time_in kind bytes.now) }
 {

@@ -1,2 +1,2 @@
-/// The use of an object, in bytes, beside its content (own).
+/// The use of an object in addition to its content, in bytes (own).
 pub const OBJECT_USE: u64 = 64;

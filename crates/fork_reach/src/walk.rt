@@ -16,9 +16,9 @@ use git_name::{Hashing, Name};
 use indexmap::IndexSet;
 use std::alloc::Global;
 
-// The names that the roots reach, not going through hidden ones. A name is seen when it is added to the list of those
-// that wait, so each is followed once. A name whose kind has no links is never added. The first link of an object is
-// followed next.
+// The names that can be reached from the roots without passing through hidden ones. A name is marked as seen when it
+// is added to `waiting`, so that each is followed once. A name whose kind has no links is never added. The first link
+// of an object is followed next.
 pub(crate) fn walk<S: Source>(
     alloc: Global,
     source: &mut S,

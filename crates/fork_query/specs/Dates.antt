@@ -10,26 +10,26 @@ use Rattle.fork_reach.specs.History.{Note, note_at, seconds_in}
 use Rattle.fork_reach.specs.Source.{Objects}
 use Rattle.fork_query.specs.declared.dated.Dated.{Dated}
 
--- a time, of which the greater comes first
+-- a time that sorts in descending order
 abbrev pub reverse : ℕ → Reverse ℕ
 reverse seconds = record { 0 = seconds }
 
--- the newer first; of one time, the lesser name
+-- newer commits first; if the times are equal, ascending by name
 abbrev pub by_date : Dated → Dated → Ordering
 by_date a b = ordering_then (nat_cmp b.seconds.0 a.seconds.0) (name_cmp a.name b.name)
 
--- dates in order, each inserted at its place among the earlier ones
+-- dates in this order, by insertion
 abbrev pub newest_first : List Dated → List Dated
 newest_first dates = fold (insert_key by_date) [] dates
 
--- the date of an object under its name
+-- the date of a named object
 abbrev pub dated : List ℕ × Object → Dated
 dated entry = record { seconds = reverse (seconds_in entry.1.kind entry.1.bytes); name = entry.0 }
 
--- the same of what is noted about it
+-- the same from a note
 abbrev pub noted_date : List ℕ × Note → Dated
 noted_date entry = record { seconds = reverse entry.1.seconds; name = entry.0 }
 
--- the same of the object of a name
+-- the same for the object of a name
 abbrev pub date_at : Objects → List ℕ → Dated
 date_at objects name = noted_date (name, note_at objects name)

@@ -1,5 +1,5 @@
--- `fetch ITEM..`: the records of the objects that are reached from the wanted ones and not from the excluded ones
--- (git-pack-objects(1), `--revs`; records in place of a pack, ascending by name, are own).
+-- `fetch ITEM..`: the records of the objects reachable from the wanted ones but not from the excluded ones
+-- (git-pack-objects(1), `--revs`; that they are records, not a pack, and ascend by name, is own).
 use Rattle.std.specs.Prelude.{ℕ, List, [], Option, None, Some, Result, Ok, Err}
 use Rattle.std.specs.List.{flat_map}
 use Rattle.std.specs.FinMap.{get, keys}
@@ -21,7 +21,7 @@ record_or_none (Some object) = record_of object
 abbrev pub record_named : Objects → List ℕ → List ℕ
 record_named objects name = record_or_none (get objects name)
 
--- the records of what links lead to
+-- the records of the objects that are reachable from the wanted names but not from the excluded ones
 unfoldable pub fetched : Objects → List (List ℕ) → List (List ℕ) → List ℕ
 fetched objects wanted excluded = flat_map (record_named objects) (keys (beyond (linked_names objects) objects wanted excluded))
 

@@ -16,15 +16,15 @@ use Rattle.fork_query.specs.Objects.{name_lines}
 abbrev pub is_common : Objects → List ℕ → List ℕ → List ℕ → Bool
 is_common objects a b name = is_ancestor objects a name && is_ancestor objects b name
 
--- another common ancestor has it among its own ancestors
+-- it is an ancestor of another common ancestor
 abbrev pub is_outdone : Objects → List ℕ → List ℕ → List ℕ → Bool
 is_outdone objects a b name = list_any (λ other. is_common objects a b other && not (bytes_eq other name) && is_ancestor objects other name) (keys objects)
 
--- it is common, and no other common ancestor descends from it
+-- it is a common ancestor, and not an ancestor of another one
 abbrev pub is_base : Objects → List ℕ → List ℕ → List ℕ → Bool
 is_base objects a b name = is_common objects a b name && not (is_outdone objects a b name)
 
--- those, ascending by name
+-- the best common ancestors, ascending by name
 unfoldable pub merge_bases : Objects → List ℕ → List ℕ → List (List ℕ)
 merge_bases objects a b = keys (retain_keys objects (is_base objects a b))
 
@@ -36,7 +36,7 @@ bases_of objects (Err refusal) b = Err refusal
 unfoldable pub bases_told : Objects → Repository → List ℕ → List ℕ → Result (List ℕ) Refusal
 bases_told objects repository a b = bases_of objects (commit_of_item objects repository a) (commit_of_item objects repository b)
 
--- a line for each of some names, which ascend and are names of these objects
+-- the text has a line for each of some names of these objects, in ascending order
 pub record ListsSeen (objects : Objects) (text : List ℕ) : Type 0 where
   pub names : List (List ℕ)
   pub lines : text ≡ name_lines names

@@ -1,4 +1,4 @@
--- The record of one object, and the lines of names (git-cat-file(1), git-rev-list(1)).
+-- The record of an object, and lines of names (git-cat-file(1), git-rev-list(1)).
 use Rattle.std.specs.Prelude.{◌≡◌, ℕ, List, ◌++◌, Option, None, Some, Result, Ok, Err, codes}
 use Rattle.std.specs.List.{flat_map}
 use Rattle.std.specs.FinMap.{get}
@@ -21,7 +21,7 @@ object_told objects name = record_found name (get objects name)
 abbrev pub IsRecordUnder : List ℕ → List ℕ → Type 0
 IsRecordUnder name text = (object : Object) × (object_name object ≡ name) × (text ≡ record_of object)
 
--- the text is records of objects, each with its object's own name
+-- the text is a list of records of objects, each with its object's own name
 abbrev pub AreRecords : List ℕ → Type 0
 AreRecords text = (objects : List Object) × (text ≡ flat_map record_of objects)
 

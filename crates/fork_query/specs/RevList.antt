@@ -1,4 +1,4 @@
--- `rev-list ITEM..`: the commits that are ancestors of the wanted ones and not of the excluded ones, the newest first
+-- `rev-list ITEM..`: the ancestors of the wanted commits that are not ancestors of the excluded ones, newest first
 -- (git-rev-list(1); the order is own).
 use Rattle.std.specs.Prelude.{ℕ, List, map, Result, Ok, Err}
 use Rattle.std.specs.FinMap.{entries}
@@ -12,7 +12,7 @@ use Rattle.fork_query.specs.Objects.{name_lines}
 use Rattle.fork_query.specs.Reached.{beyond}
 use Rattle.fork_query.specs.Sides.{Selection, selected}
 
--- their names; a commit is its own ancestor
+-- the names of these commits; a commit is its own ancestor
 unfoldable pub revision_list : Objects → List (List ℕ) → List (List ℕ) → List (List ℕ)
 revision_list objects wanted excluded = map (λ date. date.name) (newest_first (map dated (entries (beyond (parent_names objects) objects wanted excluded))))
 

@@ -7,6 +7,6 @@ use Rattle.fork_reach.specs.Reach.{is_among}
 use Rattle.fork_reach.specs.Source.{Objects}
 use Rattle.fork_query.specs.Fetch.{record_named}
 
--- the text is the records of the objects of the names that pass the test, ascending
+-- the text is the records of the objects whose names pass the test, in ascending order of the names
 abbrev pub IsSent : Objects → (List ℕ → Bool) → List ℕ → Type 0
 IsSent objects passes text = (names : List (List ℕ)) × IsStrictlySortedBy name_cmp names × ((name : List ℕ) → is_among names name ≡ passes name) × (text ≡ flat_map (record_named objects) names)

@@ -1,14 +1,14 @@
--- Both sides of a list of items: those that are wanted, and those that are excluded (git-rev-list(1), `^`).
+-- Both sides of a list of items: the wanted ones, and the excluded ones (git-rev-list(1), `^`).
 use Rattle.std.specs.Prelude.{ℕ, Bool, true, false, List, [], ◌∷◌, ◌++◌, Result, Ok, Err, codes, drop, if◌then◌else◌}
 use Rattle.git_refname.specs.Rule.{begins}
 use Rattle.fork_request.specs.declared.refusal.Refusal.{Refusal}
 use Rattle.fork_query.specs.declared.sides.Sides.{Sides}
 
--- an item that begins with `^` is excluded
+-- whether an item is excluded: it begins with `^`
 abbrev pub is_excluded : List ℕ → Bool
 is_excluded item = begins (codes "^") item
 
--- an item without that `^`
+-- an item without its leading `^`
 abbrev pub bare : List ℕ → List ℕ
 bare item = if is_excluded item then drop 1 item else item
 
@@ -20,7 +20,7 @@ pub record Selection : Type 0 where
 abbrev pub selection_of : Sides → Selection
 selection_of sides = record { wanted = sides.wanted.items; excluded = sides.excluded.items }
 
--- one more name on its side
+-- one more name before those of its side
 abbrev pub with_name : Bool → List ℕ → Selection → Selection
 with_name true name selection = record { wanted = selection.wanted; excluded = name ∷ selection.excluded }
 with_name false name selection = record { wanted = name ∷ selection.wanted; excluded = selection.excluded }
@@ -33,7 +33,7 @@ abbrev pub with_item : Bool → Result (List ℕ) Refusal → Result Selection R
 with_item excluded (Ok name) rest = with_rest excluded name rest
 with_item excluded (Err refusal) rest = Err refusal
 
--- the names of these items, each as it is judged; the first refused item decides
+-- the names of these items, or the refusal of the first one that is refused
 abbrev pub selected : (List ℕ → Result (List ℕ) Refusal) → List (List ℕ) → Result Selection Refusal
 selected judge [] = Ok (record { wanted = []; excluded = [] })
 selected judge (item ∷ items) = with_item (is_excluded item) (judge (bare item)) (selected judge items)

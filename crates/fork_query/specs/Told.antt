@@ -5,7 +5,7 @@ use Rattle.fork_request.specs.declared.refusal.Refusal.{Refusal}
 use Rattle.fork_query.specs.declared.query_error.QueryError.{QueryError}
 use Rattle.fork_query.specs.declared.query_error.QueryError.TheVariants.{Refused, Failed}
 
--- it reports what was found, or the refusal; a fault reports nothing
+-- it reports what was found, or the refusal; a fault says nothing about either
 abbrev pub Tells : {A B : Type 0} → (B → A) → Result A Refusal → Result B QueryError → Type 0
 Tells view found (Ok told) = found ≡ Ok (view told)
 Tells view found (Err (Refused refusal)) = found ≡ Err refusal

@@ -25,7 +25,7 @@ six_digits Executable = codes "100755"
 six_digits Link = codes "120000"
 six_digits Gitlink = codes "160000"
 
--- the type of what an entry names
+-- the type of an entry's object
 abbrev pub entry_type : Mode → List ℕ
 entry_type Tree = codes "tree"
 entry_type File = codes "blob"
@@ -36,7 +36,7 @@ entry_type Gitlink = codes "commit"
 abbrev pub entry_row : Entry → List ℕ
 entry_row entry = six_digits entry.mode ++ codes " " ++ entry_type entry.mode ++ codes " " ++ encode_lower entry.name ++ codes "\t" ++ entry.file_name ++ 0 ∷ []
 
--- the tree of a commit, and any other name as it is
+-- the tree of a commit, or else the name itself
 abbrev pub tree_or : List ℕ → Option CommitValue → List ℕ
 tree_or name None = name
 tree_or name (Some commit) = commit.tree
@@ -51,7 +51,7 @@ abbrev pub tree_name_of : List ℕ → Option Object → List ℕ
 tree_name_of name None = name
 tree_name_of name (Some object) = tree_name_in name object.kind object.bytes
 
--- the entries of the tree with bytes of this kind
+-- the entries of the tree with these bytes; any other object has none
 abbrev pub entries_of_kind : Kind → List ℕ → Option (List Entry)
 entries_of_kind kind.Blob bytes = None
 entries_of_kind kind.Tree bytes = tree_in bytes
@@ -62,7 +62,7 @@ abbrev pub entries_of_found : Option Object → Option (List Entry)
 entries_of_found None = None
 entries_of_found (Some object) = entries_of_kind object.kind object.bytes
 
--- the entries of what tags lead to: a tree, or the tree of a commit
+-- the entries of the tree of this name, or of the tree of the commit of this name
 abbrev pub entries_at_end : Objects → Option (List ℕ) → Option (List Entry)
 entries_at_end objects None = None
 entries_at_end objects (Some end) = entries_of_found (get objects (tree_name_of end (get objects end)))

@@ -19,7 +19,7 @@ use git_reftx::Repository;
 use indexmap::IndexSet;
 use std::alloc::Global;
 
-// The best common ancestors, from both histories, which are read.
+// Reads both histories, and returns the best common ancestors.
 fn read_bases<S: Source>(
     alloc: Global,
     source: &mut S,
@@ -39,7 +39,8 @@ fn read_bases<S: Source>(
     }
 }
 
-// The same, from the parents that the source knows. If it does not know all, both histories are read.
+// The best common ancestors, by the parents that the source knows. If it does not know all of them, both histories
+// are read.
 fn best<S: Source>(
     alloc: Global,
     source: &mut S,
@@ -59,7 +60,7 @@ fn best<S: Source>(
 }
 
 #[tactic(auto, unfolding(crate::specs::MergeBase::merge_bases))]
-// The best common ancestors, one a line.
+// The best common ancestors, one per line.
 fn bases<S: Source>(alloc: Global, source: &mut S, a: Name, b: Name) -> Result<Vec<u8>, SourceFault>
     ensures listed { IsTrue (S.state source.old).honest → IfOk result (λ text. text.items ≡ name_lines (merge_bases (S.state source.old).objects a b)) }
     // Over any source.
@@ -77,9 +78,9 @@ fn bases<S: Source>(alloc: Global, source: &mut S, a: Name, b: Name) -> Result<V
 }
 
 #[tactic(auto, unfolding(crate::specs::MergeBase::bases_told))]
-/// The best common ancestors of two commits, one a line, ascending by name: those that are no ancestor
-/// of another common ancestor. If the source knows the parents of all their ancestors, it reads none of them.
-/// Otherwise it reads each once. A `^` is part of an item.
+/// The best common ancestors of two commits, one per line, in ascending order: those that are not an ancestor of
+/// another common ancestor. If the source knows the parents of all ancestors, no commit is read. Otherwise each
+/// commit is read once. A leading `^` has no meaning here: it is part of the item.
 pub fn merge_base<S: Source>(
     alloc: Global,
     source: &mut S,

@@ -41,7 +41,7 @@ fn send<S: Source>(
     }
 }
 
-// The records of the objects of these names.
+// The records of the objects of these names, in this order.
 fn send_all<S: Source>(
     alloc: Global,
     source: &mut S,
@@ -58,8 +58,8 @@ fn send_all<S: Source>(
     Ok(text)
 }
 
-// The records of the objects of the names of a set, ascending by name. They are read only if one of them is
-// not lent.
+// The records of the objects of a set of names, in ascending order. They are read only if one of them cannot be
+// borrowed.
 fn records_of<S: Source>(
     alloc: Global,
     source: &mut S,
@@ -81,7 +81,7 @@ fn records_of<S: Source>(
 }
 
 #[tactic(auto, unfolding(crate::specs::Fetch::fetched))]
-// The records of what is reached from the wanted names and not from the excluded ones.
+// The records of the objects that are reachable from the wanted names but not from the excluded ones.
 fn records<S: Source>(alloc: Global, source: &mut S, sides: &Sides) -> Result<Vec<u8>, SourceFault>
     ensures sent { IsTrue (S.state source.old).honest → IfOk result (λ text. text.items ≡ fetched (S.state source.old).objects sides.now.wanted.items sides.now.excluded.items) }
     ensures named { IfOk result (λ text. AreRecords text.items) }
@@ -97,10 +97,10 @@ fn records<S: Source>(alloc: Global, source: &mut S, sides: &Sides) -> Result<Ve
 }
 
 #[tactic(auto, unfolding(crate::specs::Fetch::fetch_told))]
-/// The records of the objects that the items reach, except those that the items with `^` reach;
-/// ascending by name. What is lent is not read, and the walk reads nothing if the source knows the links.
-/// Otherwise each tree, commit and tag is read once for the walk and once to be sent, a blob only to be
-/// sent. The items are words, separated by one SP each.
+/// The records of the objects that are reachable from the items but not from items with a leading `^`, in ascending
+/// order of their names. Objects that can be borrowed are not read. The walk reads nothing if the source knows the
+/// links. Otherwise each tree, commit and tag is read once for the walk and once to be sent, and a blob only to be
+/// sent. Items are separated by one SP.
 pub fn fetch<S: Source>(
     alloc: Global,
     source: &mut S,

@@ -10,8 +10,8 @@ use std::alloc::{AllocError, Global};
 use std::collections::BTreeMap;
 use std::marker::Model;
 
-// What tags stand for, as far as a query has followed them; nothing if a chain comes back to itself.
-// Contracts see a map from names to what they stand for.
+// The tags that a query has followed, and the name that each peels to, or `None` if its chain is a cycle. Contracts
+// see a map from names to these.
 #[derive(Drop)]
 pub(crate) struct Followed {
     ends: BTreeMap<Name, Option<Name>>,
@@ -30,7 +30,7 @@ impl Model for Followed {
 }
 
 impl Followed {
-    // No tag followed yet.
+    // No tag has been followed.
     #[tactic(auto, using(crate::proofs::FollowedLemmas::none_followed))]
     pub(crate) fn new(alloc: Global) -> Followed
         ensures { (objects : Objects) → AreEnds objects result }
@@ -40,14 +40,14 @@ impl Followed {
         }
     }
 
-    // What the tag of this name stands for, if it was followed.
+    // The name that this tag peels to, if it was followed.
     pub(crate) fn end_of(&self, tag: Name) -> Option<Option<Name>>
         ensures { result ≡ map.get self.now tag }
     {
         self.ends.get(&tag).copied()
     }
 
-    // Notes what the tag of this name stands for.
+    // Notes the name that this tag peels to.
     pub(crate) fn note(&mut self, tag: Name, end: Option<Name>) -> Result<(), AllocError>
         ensures { OnOk result (self.new ≡ map.insert self.old tag end) }
     {

@@ -6,7 +6,7 @@ use git_reftx::Repository;
 use std::alloc::{AllocError, Global};
 
 #[tactic(auto, unfolding(crate::specs::Head::head_told))]
-/// The branch that HEAD names, and if it exists the object at which it points.
+/// The branch that HEAD names, and the object that the branch points at, if it exists.
 pub fn head(alloc: Global, repository: &Repository) -> Result<Vec<u8>, AllocError>
     ensures { IfOk result (λ text. text.items ≡ head_told repository.now) }
 {
@@ -17,7 +17,7 @@ pub fn head(alloc: Global, repository: &Repository) -> Result<Vec<u8>, AllocErro
     Ok(text)
 }
 
-// Adds the line of a branch.
+// Appends the line of a branch.
 fn write_line(text: &mut Vec<u8>, branch: &[u8], target: Option<Name>) -> Result<(), AllocError>
     ensures { OnOk result (text.new.items ≡ text.old.items ++ head_line branch.now target) }
 {

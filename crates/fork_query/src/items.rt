@@ -19,8 +19,8 @@ use git_refname::RefName;
 use git_reftx::Repository;
 use std::alloc::Global;
 
-// The object at which the reference of this name points. `HEAD` has no `/`, so it is never a
-// reference's own name: it means the branch that HEAD names.
+// The object that the reference of this name points at. `HEAD` means the branch that HEAD names. It is never the name
+// of a reference, since it has no `/`.
 fn target_of(repository: &Repository, item: &[u8]) -> Option<Name>
     ensures { result ≡ map.get repository.now.references (reference_of repository.now item.now) }
 {
@@ -34,7 +34,7 @@ fn target_of(repository: &Repository, item: &[u8]) -> Option<Name>
     }
 }
 
-// The name that the digits write, otherwise the target of the reference.
+// The name in digits, or else the target of the reference.
 fn named_by(repository: &Repository, item: &[u8]) -> Option<Name>
     ensures { result ≡ named_by repository.now item.now }
 {
@@ -44,7 +44,7 @@ fn named_by(repository: &Repository, item: &[u8]) -> Option<Name>
     }
 }
 
-// The name of the item's object, which exists. No object is read.
+// The name of the item's object, which must exist. No object is read.
 fn object_of_item<S: Source>(
     alloc: Global,
     source: &S,
@@ -66,7 +66,7 @@ fn object_of_item<S: Source>(
     Ok(name)
 }
 
-// Whether the object of this name is a commit. It reads no bytes of it.
+// Whether the object of this name is a commit. Does not read its bytes.
 pub(crate) fn is_commit<S: Source>(source: &S, name: Name) -> bool
     ensures { result ≡ is_commit (kind_in (S.state source.now).objects name) }
 {
@@ -76,7 +76,7 @@ pub(crate) fn is_commit<S: Source>(source: &S, name: Name) -> bool
     }
 }
 
-// The name of the commit that this name leads to. Tags are read, and no commit.
+// The name of the commit that this name peels to. Only tags are read.
 fn commit_at<S: Source>(
     alloc: Global,
     source: &mut S,
@@ -96,7 +96,7 @@ fn commit_at<S: Source>(
     Ok(end)
 }
 
-// The name of the item's object, or of the commit that it leads to.
+// The name of the item's object, or of the commit that it peels to.
 pub(crate) fn named_item<S: Source>(
     alloc: Global,
     want: Want,

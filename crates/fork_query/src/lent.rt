@@ -14,7 +14,7 @@ use indexmap::IndexSet;
 use push_stream::{BESIDE, add_record};
 use std::alloc::{AllocError, Global};
 
-/// An object that is lent where it is in memory.
+/// An object, borrowed from where it is in memory.
 #[derive(Clone, Copy)]
 pub struct Lent<'a> {
     pub name: Name,
@@ -22,7 +22,7 @@ pub struct Lent<'a> {
     pub bytes: &'a [u8],
 }
 
-// The objects of these names, in their order, if all of them are lent.
+// Borrows the objects of these names, in order, or returns `None` if one of them has to be read.
 fn lend_each<'a, S: Source>(
     alloc: Global,
     source: &'a S,
@@ -47,7 +47,7 @@ fn lend_each<'a, S: Source>(
     Ok(Some(lent))
 }
 
-// What is lent, ascending by name.
+// The borrowed objects, in ascending order of their names.
 fn by_name(lent: Vec<Lent<'_>>) -> Vec<Lent<'_>>
     ensures moved { IsPermutation lent.entry.items result.items }
     ensures sorted { IsSortedByKey (λ one. one.name) name_cmp result.items }
@@ -57,7 +57,7 @@ fn by_name(lent: Vec<Lent<'_>>) -> Vec<Lent<'_>>
     lent
 }
 
-// An upper bound of the length of their records.
+// An upper bound of the total length of their records.
 fn room_for(lent: &[Lent<'_>]) -> usize {
     let mut room = 0usize;
     for one in lent {
@@ -77,8 +77,8 @@ fn write_all(alloc: Global, lent: &[Lent<'_>]) -> Result<Vec<u8>, AllocError>
     Ok(text)
 }
 
-// The records of the objects of these names, ascending by name, if all of them are lent. Each is looked up in
-// the order of the set, which a walk made, so that it is found near the one before.
+// The records of the objects of these names, in ascending order, or `None` if one of them has to be read. Objects are
+// looked up in the order of the set. A walk made this order, so that each is found near the one before.
 pub(crate) fn lent_records<S: Source>(
     alloc: Global,
     source: &S,

@@ -1,5 +1,4 @@
-//! Queries about a tenant's objects and a repository. Each answer is its definition, over anything that
-//! is a `Source`.
+//! Queries about a tenant's objects and a repository. Each answer is equal to its definition, over any `Source`.
 #![tactic(auto)]
 
 mod bases;

@@ -4,10 +4,10 @@ ghost use Rattle.fork_query.specs.Objects.{name_line, name_lines};
 use git_name::Name;
 use std::alloc::{AllocError, Global};
 
-// How many bytes such a line has.
+// The length of a line with a name, in bytes.
 pub(crate) const NAME_LINE: usize = 65;
 
-// Adds the name in digits, and LF.
+// Appends the name in digits, and LF.
 pub(crate) fn write_name(text: &mut Vec<u8>, name: Name) -> Result<(), AllocError>
     ensures { OnOk result (text.new.items ≡ text.old.items ++ name_line name) }
 {
@@ -18,7 +18,7 @@ pub(crate) fn write_name(text: &mut Vec<u8>, name: Name) -> Result<(), AllocErro
     Ok(())
 }
 
-// The names, one a line.
+// The names, one per line.
 pub(crate) fn write_names(alloc: Global, names: &[Name]) -> Result<Vec<u8>, AllocError>
     ensures { IfOk result (λ text. text.items ≡ name_lines names.now) }
 {

@@ -11,7 +11,8 @@ use push_stream::write_record;
 use std::alloc::Global;
 
 #[tactic(auto, unfolding(crate::specs::Objects::object_told))]
-/// The record of the object of this name, which is read once. It is refused if there is no such object.
+/// The record of the object of this name. The object is read once. If there is no such object, the request is
+/// refused.
 pub fn cat_file<S: Source>(alloc: Global, source: &mut S, name: Name) -> Result<Vec<u8>, QueryError>
     ensures told { IsTrue (S.state source.old).honest → Tells (λ text. text.items) (object_told (S.state source.old).objects name) result }
     // Over any source.

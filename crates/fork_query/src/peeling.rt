@@ -15,7 +15,7 @@ use git_object::Tag;
 use std::alloc::{AllocError, Global};
 use std::collections::BTreeSet;
 
-// Whether the object of this name is a tag. It reads no bytes of it.
+// Whether the object of this name is a tag. Does not read its bytes.
 fn is_tag<S: Source>(source: &S, name: Name) -> bool
     ensures tag { OnTrue result (kind_in (S.state source.now).objects name ≡ Some Kind.Tag) }
     ensures other { OnFalse result (kind_in (S.state source.now).objects name ≢ Some Kind.Tag) }
@@ -26,7 +26,7 @@ fn is_tag<S: Source>(source: &S, name: Name) -> bool
     }
 }
 
-// The name that the object stands for, if it is a tag.
+// The target of the object, if it is a tag.
 fn target_of(sealed: &Sealed) -> Option<Name>
     ensures { result ≡ target_in sealed.now.kind sealed.now.bytes }
 {
@@ -39,7 +39,7 @@ fn target_of(sealed: &Sealed) -> Option<Name>
     }
 }
 
-// The name that the tag of this name stands for. The tag is read once.
+// The target of the tag of this name. The tag is read once.
 fn read_target<S: Source>(
     alloc: Global,
     source: &mut S,
@@ -55,14 +55,14 @@ fn read_target<S: Source>(
     }
 }
 
-// A walk along tags: those visited, and the name at the end, none if it came back to one of them.
+// A walk along tags: the visited tags, and the name at the end, or `None` if the walk came back to a visited tag.
 #[derive(Drop)]
 struct Trail {
     tags: BTreeSet<Name>,
     end: Option<Name>,
 }
 
-// Follows tags from this name, up to one that was followed before. Each is read once, and nothing else.
+// Follows tags from this name, up to one that was followed before. Each tag is read once, and nothing else is.
 fn walk<S: Source>(
     alloc: Global,
     source: &mut S,
@@ -100,7 +100,7 @@ fn walk<S: Source>(
     })
 }
 
-// Notes that all these tags stand for this.
+// Notes that all these tags peel to this name.
 fn note_all(
     followed: &mut Followed,
     tags: &BTreeSet<Name>,
@@ -114,8 +114,8 @@ fn note_all(
     Ok(())
 }
 
-// What the name stands for once tags are followed. Each tag is read once for all names of a query, and
-// nothing else is.
+// The name that this name peels to, or `None` if its tags are a cycle. Each tag is read once for all names of a
+// query, and nothing else is.
 pub(crate) fn peel<S: Source>(
     alloc: Global,
     source: &mut S,

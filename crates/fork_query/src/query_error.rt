@@ -7,7 +7,7 @@ use fork_request::Refusal;
 /// Why a query has no answer.
 #[derive(Debug, Drop)]
 pub enum QueryError {
-    /// The request is refused.
+    /// The request was refused.
     Refused(Refusal),
     /// The source failed, or memory ran out.
     Failed(SourceFault),

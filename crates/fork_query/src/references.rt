@@ -9,8 +9,8 @@ use git_reftx::Refs;
 use std::alloc::{AllocError, Global};
 
 #[tactic(auto, unfolding(crate::specs::References::listing))]
-/// The rows of the references that match the prefix, or of all if there is no prefix, ascending by
-/// name. No object is read.
+/// The rows of the references that match the prefix, or of all references if there is no prefix, in ascending order
+/// of their names. No object is read.
 pub fn for_each_ref<S: Source>(
     alloc: Global,
     source: &S,
@@ -57,7 +57,7 @@ fn matches(prefix: &[u8], reference: &[u8]) -> bool
     reference[prefix.len()..].starts_with(b"/")
 }
 
-// Adds the row of a reference.
+// Appends the row of a reference.
 fn write_row(
     text: &mut Vec<u8>,
     reference: &[u8],

@@ -22,7 +22,7 @@ use git_reftx::Repository;
 use std::alloc::{AllocError, Global};
 use std::cmp::Reverse;
 
-// The commits of the history, the newest first. It consumes the history.
+// The commits of the history with their times, newest first. Consumes the history.
 fn dates_of(alloc: Global, history: History) -> Result<Vec<Dated>, AllocError>
     ensures { IfOk result (λ dates. dates.items ≡ newest_first (mapped noted_date (map.entries history))) }
 {
@@ -38,7 +38,7 @@ fn dates_of(alloc: Global, history: History) -> Result<Vec<Dated>, AllocError>
     Ok(dates)
 }
 
-// The dates of these commits, if the source knows all of them.
+// The times of these commits, or `None` if the source does not know all of them.
 fn dates_known<S: Source>(
     alloc: Global,
     source: &S,
@@ -59,7 +59,7 @@ fn dates_known<S: Source>(
     Ok(Some(dates))
 }
 
-// The newest first.
+// The dates, newest first.
 fn sorted(dates: Vec<Dated>) -> Vec<Dated>
     ensures moved { IsPermutation dates.items result.items }
     ensures sorted { IsSorted by_date result.items }
@@ -69,8 +69,8 @@ fn sorted(dates: Vec<Dated>) -> Vec<Dated>
     dates
 }
 
-// The commits that are ancestors of the wanted ones and not of the excluded ones, if the source knows them, the
-// newest first. It reads nothing.
+// The ancestors of the wanted commits that are not ancestors of the excluded ones, newest first, or `None` if the
+// source does not know them. Reads nothing.
 fn known_dates<S: Source>(
     alloc: Global,
     source: &S,
@@ -104,8 +104,8 @@ fn lines_of(alloc: Global, dates: &[Dated]) -> Result<Vec<u8>, AllocError>
     Ok(text)
 }
 
-// The dates of the commits that are ancestors of the wanted ones and not of the excluded ones, from histories that are
-// read, the newest first. What the excluded ones reach is walked first, and the walk from the wanted ones stops there.
+// The ancestors of the wanted commits that are not ancestors of the excluded ones, newest first. The histories are
+// read. The excluded one is walked first, and the walk from the wanted commits stops there.
 fn read_dates<S: Source>(
     alloc: Global,
     source: &mut S,
@@ -122,7 +122,7 @@ fn read_dates<S: Source>(
     }
 }
 
-// The same, from what the source knows, or else from what is read.
+// The same, from what the source knows. If it does not know enough, the histories are read.
 fn dates<S: Source>(alloc: Global, source: &mut S, sides: &Sides) -> Result<Vec<Dated>, SourceFault>
     ensures dates { IsTrue (S.state source.old).honest → IfOk result (λ dates. dates.items ≡ newest_first (mapped dated (map.entries (beyond (parent_names (S.state source.old).objects) (S.state source.old).objects sides.now.wanted.items sides.now.excluded.items)))) }
     ensures asked { IsAsked (S.state source.old) (S.state source.new) (fault_in result) }
@@ -152,10 +152,10 @@ fn revisions<S: Source>(
 }
 
 #[tactic(auto, unfolding(crate::specs::RevList::revisions_told))]
-/// The ancestors of the items' commits, one a line, except those of the items with `^`; by the
-/// committer's seconds, the newest first, and of one time by name. A commit is its own ancestor. If the source
-/// knows the histories, nothing is read; otherwise each commit is read once. The items are words, separated by one
-/// SP each.
+/// The ancestors of the items' commits that are not ancestors of items with a leading `^`, one per line. They are in
+/// descending order of the committer's seconds, and in ascending order of their names if these are equal. A commit is
+/// its own ancestor. If the source knows the histories, no commit is read. Otherwise each commit is read once. Items
+/// are separated by one SP.
 pub fn rev_list<S: Source>(
     alloc: Global,
     source: &mut S,

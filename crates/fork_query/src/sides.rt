@@ -15,7 +15,7 @@ use git_name::{Name, first_word};
 use git_reftx::Repository;
 use std::alloc::{AllocError, Global};
 
-// The names of items: those that are wanted, and those that are excluded.
+// The names of a request's items: the wanted ones, and the excluded ones.
 #[derive(Drop)]
 pub(crate) struct Sides {
     pub(crate) wanted: Vec<Name>,
@@ -28,14 +28,14 @@ fn is_excluded(item: &[u8]) -> bool
     item.starts_with(b"^")
 }
 
-// The item without a `^` before it.
+// The item without its leading `^`.
 fn bare(item: &[u8]) -> &[u8]
     ensures { result.now ≡ bare item.now }
 {
     if is_excluded(item) { &item[1..] } else { item }
 }
 
-// Puts the name on its side.
+// Appends the name to its side.
 fn put(name: Name, is_excluded: bool, sides: &mut Sides) -> Result<(), AllocError>
     ensures { OnOk result (selection_of sides.new ≡ added_name (selection_of sides.old) is_excluded name) }
 {
@@ -47,7 +47,7 @@ fn put(name: Name, is_excluded: bool, sides: &mut Sides) -> Result<(), AllocErro
     Ok(())
 }
 
-// Puts the item's name on its side.
+// Appends the item's name to its side.
 fn put_item<S: Source>(
     alloc: Global,
     want: Want,
@@ -68,7 +68,7 @@ fn put_item<S: Source>(
     }
 }
 
-// The names of the items, which are words separated by one SP each. The first refused item decides.
+// The names of the items, which are separated by one SP. If items are refused, the first one decides.
 pub(crate) fn select<S: Source>(
     alloc: Global,
     want: Want,

@@ -33,7 +33,7 @@ fn six_digits(mode: Mode) -> &'static [u8]
     }
 }
 
-// The type of what the entry names.
+// The type of the entry's object.
 fn entry_type(mode: Mode) -> &'static [u8]
     ensures { result.now ≡ entry_type mode }
 {
@@ -44,7 +44,7 @@ fn entry_type(mode: Mode) -> &'static [u8]
     }
 }
 
-// Adds the row of an entry.
+// Appends the row of an entry.
 fn write_entry(
     text: &mut Vec<u8>,
     mode: Mode,
@@ -77,7 +77,7 @@ fn write_rows(alloc: Global, row: Entries<'_>) -> Result<Vec<u8>, AllocError>
     Ok(text)
 }
 
-// The rows of the tree that the bytes are.
+// The rows of the tree with these bytes, or `None` if they are not a tree.
 fn rows_of(alloc: Global, bytes: &[u8]) -> Result<Option<Vec<u8>>, AllocError>
     ensures { IfOk result (λ rows. option_map (λ text. text.items) rows ≡ option_map (flat_map entry_row) (tree_in bytes.now)) }
 {
@@ -88,7 +88,7 @@ fn rows_of(alloc: Global, bytes: &[u8]) -> Result<Option<Vec<u8>>, AllocError>
     Ok(Some(text))
 }
 
-// The tree of the commit, and any other object's own name.
+// The name of a commit's tree. For any other object, its own name.
 fn tree_name(name: Name, sealed: &Sealed) -> Name
     ensures { result ≡ tree_name_in name sealed.now.kind sealed.now.bytes }
 {
@@ -101,7 +101,7 @@ fn tree_name(name: Name, sealed: &Sealed) -> Name
     }
 }
 
-// The same for the object of this name. Only a commit is read.
+// Does the same for the object of this name. Only a commit is read.
 fn read_tree_name<S: Source>(alloc: Global, source: &mut S, name: Name) -> Result<Name, SourceFault>
     ensures tree { IsTrue (S.state source.old).honest → IfOk result (λ tree. tree ≡ tree_name_of name (map.get (S.state source.old).objects name)) }
     ensures asked { IsAsked (S.state source.old) (S.state source.new) (fault_in result) }
@@ -116,7 +116,7 @@ fn read_tree_name<S: Source>(alloc: Global, source: &mut S, name: Name) -> Resul
     }
 }
 
-// The rows of the object, if it is a tree.
+// The rows of the object if it is a tree.
 fn rows_of_sealed(alloc: Global, sealed: &Sealed) -> Result<Option<Vec<u8>>, AllocError>
     ensures { IfOk result (λ rows. option_map (λ text. text.items) rows ≡ option_map (flat_map entry_row) (entries_of_kind sealed.now.kind sealed.now.bytes)) }
 {
@@ -126,7 +126,7 @@ fn rows_of_sealed(alloc: Global, sealed: &Sealed) -> Result<Option<Vec<u8>>, All
     }
 }
 
-// The rows of the tree of this name.
+// The rows of the object of this name if it is a tree.
 fn read_rows<S: Source>(
     alloc: Global,
     source: &mut S,
@@ -142,8 +142,7 @@ fn read_rows<S: Source>(
     }
 }
 
-// The rows of the tree to which tags lead from this name, or of the tree of the commit to which they
-// lead.
+// The rows of the tree that this name peels to, or of the tree of the commit that it peels to.
 fn rows_behind<S: Source>(
     alloc: Global,
     source: &mut S,
@@ -163,8 +162,8 @@ fn rows_behind<S: Source>(
 }
 
 #[tactic(auto, unfolding(crate::specs::Trees::tree_told))]
-/// The entries of a tree, in its order, each in a row that ends in a zero byte. The name of a tag
-/// stands for what the tag leads to, and that of a commit for its tree. Each of them is read once.
+/// The entries of a tree, in the order of the tree, each in a row that ends in a zero byte. A tag is peeled, and a
+/// commit means its tree. Each of these objects is read once.
 pub fn ls_tree<S: Source>(alloc: Global, source: &mut S, name: Name) -> Result<Vec<u8>, QueryError>
     ensures told { IsTrue (S.state source.old).honest → Tells (λ text. text.items) (tree_told (S.state source.old).objects name) result }
     // Over any source.

@@ -1,8 +1,8 @@
-// What the items of a request must name.
+// The objects that the items of a request may name.
 #[derive(Clone, Copy)]
 pub(crate) enum Want {
     // Objects of any kind.
     Object,
-    // Commits; tags are followed.
+    // Commits. Tags are peeled.
     Commit,
 }

@@ -36,8 +36,8 @@ use loose_store::LooseFiles;
 use push_stream::{Brief, StreamFault};
 use std::alloc::{AllocError, Global};
 
-// One tenant's own part of the vault. It is made once for each request, from the vault and the tenant
-// that asks. A row of the answer gets nothing else of the vault.
+// One tenant's own part of the vault. It is made once for each request, from the vault and the tenant that sent it.
+// No row of the answer has access to the rest of the vault.
 #[derive(Drop)]
 pub(crate) struct Own<'a, S: LooseFiles> {
     vault: &'a mut Vault<S>,
@@ -55,26 +55,26 @@ impl<'a, S: LooseFiles> Own<'a, S> {
 
     ghost use Rattle.fork_host.specs.Handle.{IsSame, both_by, staged_by, visible_by};
 
-    // How to hash names of objects.
+    // The hashing of object names.
     pub(crate) fn hashing_of_names(&self) -> Hashing {
         self.vault.hashing()
     }
 
-    // Whose part it is.
+    // The tenant whose part it is.
     pub(crate) fn tenant(&self) -> &'a TenantName
         ensures { result ≡ self.now.tenant }
     {
         self.tenant
     }
 
-    // The kind of an object that the tenant sees, without a read.
+    // The kind of an object that the tenant sees. Does not read it.
     pub(crate) fn kind_seen(&self, name: Name) -> Option<Kind>
         ensures { result ≡ kind_in (visible_by self.now) name }
     {
         seen_kind(self.vault.kind_of(self.tenant, name))
     }
 
-    // The object that the tenant sees under this name.
+    // Reads the object that the tenant sees under this name.
     pub(crate) fn get(&mut self, alloc: Global, name: Name) -> Result<Option<Sealed>, VaultFault>
         ensures found { IsTrue self.old.vault.now.honest → IfOk result (λ found. found ≡ map.get (visible_by self.old) name) }
         ensures kept { IsTrue self.old.vault.now.honest → self.new.vault.now.tenants ≡ self.old.vault.now.tenants }
@@ -90,7 +90,7 @@ impl<'a, S: LooseFiles> Own<'a, S> {
         self.vault.get(alloc, self.tenant, name)
     }
 
-    // The object that the tenant sees under this name, borrowed if it need not be read.
+    // Borrows the object that the tenant sees under this name, or returns `None` if it has to be read.
     pub(crate) fn lend_seen(&self, name: Name) -> Option<(Kind, &[u8])>
         ensures found { IfSome result (λ lent. IsTrue self.now.vault.now.honest × (map.get (visible_by self.now) name ≡ Some (record { kind = lent.0; bytes = lent.1.now }))) }
         ensures named { IfSome result (λ lent. object_name (record { kind = lent.0; bytes = lent.1.now }) ≡ name) }
@@ -98,8 +98,8 @@ impl<'a, S: LooseFiles> Own<'a, S> {
         self.vault.lend(self.tenant, name)
     }
 
-    // The names of what the tenant sees that links lead to from the wanted ones, and from none of the excluded
-    // ones, if the vault knows the links of all that is on the way.
+    // The names of the objects that the tenant sees and that are reachable from `wanted` but not from `excluded`, or
+    // `None` if the vault does not know all links on the way.
     pub(crate) fn known_seen(
         &self,
         alloc: Global,
@@ -116,7 +116,7 @@ impl<'a, S: LooseFiles> Own<'a, S> {
             .known_between(alloc, self.tenant, wanted, excluded)
     }
 
-    // The same of what parents of commits lead to.
+    // The same, following only the parents of commits.
     pub(crate) fn history_seen(
         &self,
         alloc: Global,
@@ -132,8 +132,8 @@ impl<'a, S: LooseFiles> Own<'a, S> {
             .known_history(alloc, self.tenant, wanted, excluded)
     }
 
-    // The best common ancestors of two commits among what the tenant sees, if the vault knows the parents of all their
-    // ancestors.
+    // The best common ancestors of two commits among the objects that the tenant sees, or `None` if the vault does
+    // not know the parents of all their ancestors.
     pub(crate) fn bases_seen(
         &mut self,
         alloc: Global,
@@ -150,7 +150,8 @@ impl<'a, S: LooseFiles> Own<'a, S> {
         self.vault.known_bases(alloc, self.tenant, a, b)
     }
 
-    // The committer's seconds of a commit that the tenant sees, if the vault knows them.
+    // The committer's seconds since 1970 of a commit that the tenant sees, or 0 for any other object that it sees.
+    // Returns `None` if the vault does not know them.
     pub(crate) fn seconds_seen(&self, name: Name) -> Option<u64>
         ensures told { IsTrue self.now.vault.now.honest → IfSome result (λ seconds. seconds ≡ (note_at (visible_by self.now) name).seconds) }
 
@@ -160,7 +161,7 @@ impl<'a, S: LooseFiles> Own<'a, S> {
         self.vault.known_seconds(self.tenant, name)
     }
 
-    // The vault comes to know the links of an object, if the tenant sees it and it is lent.
+    // Learns the links of an object that the tenant holds, if its bytes can be borrowed.
     pub(crate) fn learn_seen(&mut self, alloc: Global, name: Name)
         ensures vault { self.new.vault.now ≡ self.old.vault.now }
         ensures same { IsSame self.old self.new }
@@ -168,7 +169,8 @@ impl<'a, S: LooseFiles> Own<'a, S> {
         self.vault.learn_links(alloc, self.tenant, name);
     }
 
-    // The vault keeps what links lead to from these names, if the tenant sees it and it is known.
+    // Keeps the sets of all objects reachable from these names, so that they need not be walked again. A set is kept
+    // only if the tenant sees all of it and its links are known.
     pub(crate) fn keep_seen(&mut self, alloc: Global, names: &[Name])
         ensures vault { self.new.vault.now ≡ self.old.vault.now }
         ensures same { IsSame self.old self.new }
@@ -176,7 +178,7 @@ impl<'a, S: LooseFiles> Own<'a, S> {
         self.vault.keep_reached(alloc, self.tenant, names);
     }
 
-    // The object that the tenant has staged under this name.
+    // Reads the object that the tenant has staged under this name.
     pub(crate) fn get_staged(
         &mut self,
         alloc: Global,
@@ -196,7 +198,7 @@ impl<'a, S: LooseFiles> Own<'a, S> {
         self.vault.get_staged(alloc, self.tenant, name)
     }
 
-    // Stages objects, in order, all or none.
+    // Stages objects, in order. On an `Err` none is staged.
     pub(crate) fn stage_all(
         &mut self,
         alloc: Global,
@@ -219,7 +221,7 @@ impl<'a, S: LooseFiles> Own<'a, S> {
         self.vault.stage_all(alloc, self.tenant, objects)
     }
 
-    // Stages the object of this name, if a survey of the store found it there with this kind and length.
+    // Stages the object of this name, if a survey of the store found it with this kind and length.
     pub(crate) fn recall(&mut self, name: Name, kind: Kind, length: u64) -> Result<(), RecallFault>
         ensures recalls { OnOk result (Recalls self.old.vault.now.honest self.old.tenant.now name self.old.vault.now.files self.old.vault.now.tenants self.new.vault.now.tenants) }
         ensures err { OnErr result (self.new.vault.now.tenants ≡ self.old.vault.now.tenants) }
@@ -249,7 +251,7 @@ impl<'a, S: LooseFiles> Own<'a, S> {
         self.vault.discard(self.tenant);
     }
 
-    // Keeps only the objects of these names among what the tenant sees.
+    // Drops the objects that the tenant sees, except those with these names.
     pub(crate) fn keep_only(&mut self, names: &IndexSet<Name, Hashing>)
         ensures tenants { self.new.vault.now.tenants ≡ at_tenant self.old.vault.now.tenants self.old.tenant.now (with_kept (λ name. contains same_name names.now name)) }
         ensures store { LeavesStore self.old.vault.now self.new.vault.now }
@@ -258,21 +260,21 @@ impl<'a, S: LooseFiles> Own<'a, S> {
         self.vault.keep_only(self.tenant, names);
     }
 
-    // How many bytes the visible objects use.
+    // The use of the visible objects, in bytes.
     pub(crate) fn used(&self) -> u128
         ensures { result ≡ capped (use_of (visible_by self.now)) }
     {
         self.vault.used(self.tenant)
     }
 
-    // Whether the visible and the staged objects use at most this many bytes.
+    // Whether the use of the visible and the staged objects is at most `limit` bytes.
     pub(crate) fn is_within(&self, limit: u64) -> bool
         ensures { result ≡ nat_le (use_of (both_by self.now)) limit }
     {
         self.vault.is_within(self.tenant, limit)
     }
 
-    // The names of what these names reach among what the tenant sees.
+    // The names of the visible objects that are reachable from these names.
     pub(crate) fn reached(
         &mut self,
         alloc: Global,
@@ -290,7 +292,7 @@ impl<'a, S: LooseFiles> Own<'a, S> {
         reach(alloc, self, roots)
     }
 
-    // The verdict on a push into a repository of these references, over what the tenant sees and has
+    // The verdict on a push into a repository with these references, over the objects that the tenant sees or has
     // staged.
     pub(crate) fn judge(
         &mut self,
@@ -318,7 +320,7 @@ impl<'a, S: LooseFiles> Own<'a, S> {
 
 ghost use Rattle.fork_ledger.specs.Private.{kind_seen};
 
-// The kind of an object, if it is seen.
+// The kind of an object if it is visible.
 fn seen_kind(held: Option<Held>) -> Option<Kind>
     ensures { result ≡ kind_seen held }
 {

@@ -8,7 +8,7 @@ use indexmap::IndexSet;
 use std::alloc::{AllocError, Global};
 use std::test::Fail;
 
-// Whether a history has three commits, whose times add up to 40.
+// Whether a history has three commits whose times add up to 40.
 fn has_three(history: &History) -> bool {
     let (listed, notes) = history.commits();
     let mut seconds = 0u64;
@@ -30,7 +30,7 @@ fn has_best(
     Ok(found.len() == 1 && found.contains(&best))
 }
 
-// Whether a history of the left commit, a tree and an object that is not there keeps what it should.
+// Whether a history of the left commit, a tree and a missing object keeps what it should.
 fn keeps_left(alloc: Global, kept: &mut Kept) -> Result<bool, Fail> {
     let names = filled(alloc, kept)?;
     let none = IndexSet::with_hasher(alloc, Hashing::default());
@@ -55,7 +55,7 @@ fn a_history_keeps_parents_and_times(rt: HostRuntime) -> Result<(), Fail> {
     Ok(())
 }
 
-// A line for each letter, ascending by name where that is wanted.
+// A line for each letter, in the order of the letters, or in ascending order of the names if `by_name` is set.
 fn lines(
     alloc: Global,
     names: &Names,
@@ -80,7 +80,7 @@ fn is_told(answer: &Result<Vec<u8>, QueryError>, text: &[u8]) -> bool {
     }
 }
 
-// Whether a revision list of these items has these commits.
+// Whether `rev_list` of these items returns these commits.
 fn lists(
     alloc: Global,
     kept: &mut Kept,
@@ -95,7 +95,7 @@ fn lists(
     Ok(is_told(&answer, wanted.as_slice()))
 }
 
-// Whether these are the bases of two commits.
+// Whether `merge_base` of two commits returns these.
 fn has_bases(
     alloc: Global,
     kept: &mut Kept,
@@ -114,7 +114,7 @@ fn has_bases(
 
 #[test]
 fn each_commit_is_read_once_to_be_listed(rt: HostRuntime) -> Result<(), Fail> {
-    // The items, the commits, whether their order is that of names, and how many objects are read.
+    // The items, the commits, whether they are in ascending order of names, and how many objects are read.
     const ROWS: &[(&[u8], &[u8], bool, u64)] = &[
         (b"f", b"f", false, 1),
         (b"m", b"mlrf", false, 4),
@@ -142,7 +142,7 @@ fn each_commit_is_read_once_to_be_listed(rt: HostRuntime) -> Result<(), Fail> {
 
 #[test]
 fn each_commit_is_read_once_for_bases(rt: HostRuntime) -> Result<(), Fail> {
-    // Two commits, their bases, and how many objects are read.
+    // Two commits, their merge bases, and how many objects are read.
     const ROWS: &[(u8, u8, &[u8], u64)] = &[
         (b'm', b'c', b"lr", 5),
         (b'l', b'r', b"f", 3),

@@ -9,8 +9,8 @@ use git_name::{Hashing, Kind, Name, Sealed};
 use std::alloc::{AllocError, Global};
 use std::collections::BTreeMap;
 
-/// Objects in memory, of which each read is counted from 1. The store fails at one of the reads, and has
-/// lost the bytes of one object, where that is wanted.
+/// Objects in memory. Reads are counted from 1. The store fails at read `fails_at`, and the bytes of the object
+/// `lost` are damaged, if these are set.
 #[derive(Drop)]
 pub struct Kept {
     objects: BTreeMap<Name, Sealed>,
@@ -79,7 +79,7 @@ impl Source for Kept {
         let Some(sealed) = self.find(name) else {
             return Ok(None);
         };
-        // `put` keeps each object under its own name, which no clause tells.
+        // `put` keeps each object under its own name, but no clause says so.
         if sealed.name() != name {
             return Err(SourceFault::Damaged);
         }

@@ -188,7 +188,7 @@ impl<S: LooseFiles> Vault<S> {
         None
     }
 
-    /// Does the same for an object that a tenant sees or has staged.
+    /// Borrows the kind and the bytes of the object that a tenant sees or has staged under this name, as `lend` does.
     pub fn lend_held(&self, tenant: &TenantName, name: Name) -> Option<(Kind, &[u8])>
         ensures found { IfSome result (λ lent. IsTrue self.now.honest × (map.get (both_of (private_of self.now.tenants tenant.now)) name ≡ Some (record { kind = lent.0; bytes = lent.1.now }))) }
         ensures named { IfSome result (λ lent. object_name (record { kind = lent.0; bytes = lent.1.now }) ≡ name) }
@@ -238,7 +238,9 @@ impl<S: LooseFiles> Vault<S> {
         self.holdings.between(alloc, tenant, wanted, excluded)
     }
 
-    /// The same, following only the parents of commits.
+    /// The names of the objects that a tenant sees and that are reachable from `wanted`, but not from `excluded`,
+    /// along the parents of commits. Returns `None` if the links of an object on the way are not known. Does not ask
+    /// the store.
     pub fn known_history(
         &self,
         alloc: Global,

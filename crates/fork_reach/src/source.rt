@@ -81,7 +81,8 @@ pub trait Source {
         Ok(None)
     }
 
-    /// The same, following only the parents of commits.
+    /// The names of the objects that are reachable from `wanted`, but not from `excluded`, along the parents of
+    /// commits. Returns `None` if the source does not know all links on the way. Reads nothing.
     fn known_history(
         &self,
         alloc: Global,

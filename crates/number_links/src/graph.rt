@@ -177,7 +177,8 @@ impl Graph {
         )
     }
 
-    /// The same, following only the parents of commits.
+    /// The numbers reachable from `wanted`, but not from `excluded`, along the parents of commits. Returns `None` if a
+    /// number on the way neither rests nor has known links.
     pub fn history<R: Resting>(
         &self,
         alloc: Global,

@@ -374,7 +374,8 @@ impl Holdings {
         names_between(alloc, &self.table, &self.links, own, wanted, excluded)
     }
 
-    /// The same, following only the parents of commits.
+    /// The names of the objects that the tenant sees and that are reachable from `wanted`, but not from `excluded`,
+    /// along the parents of commits. Returns `None` if the links of an object on the way are not known.
     pub fn history(
         &self,
         alloc: Global,

@@ -387,7 +387,7 @@ impl<S: LooseFiles> Vault<S> {
         self.holdings.names(alloc, tenant)
     }
 
-    /// How many objects a tenant sees. Takes time linear in their number.
+    /// How many objects a tenant sees. Takes time linear in what it holds.
     pub fn seen_count(&self, tenant: &TenantName) -> usize
         ensures { result ≡ map.len (private_of self.now.tenants tenant.now).visible }
     {

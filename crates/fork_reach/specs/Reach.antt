@@ -28,7 +28,7 @@ parents_of_found (Some object) = parents_in object.kind object.bytes
 abbrev pub parent_names : Objects → List ℕ → List (List ℕ)
 parent_names objects name = parents_of_found (get objects name)
 
--- an object is reached: it is a root that is there, or one that is there and that a reached one leads to
+-- a name is reached: its object is there, and it is a root or follows from a reached name
 pub data IsReached {X : Type 0} (next : List ℕ → List (List ℕ)) (objects : FinMap name_cmp X) (roots : List (List ℕ)) : List ℕ → Type 0 where
   Root : (name : List ℕ) → Contains roots name → contains_key objects name ≡ true → IsReached next objects roots name
   Next : (from name : List ℕ) → IsReached next objects roots from → Contains (next from) name → contains_key objects name ≡ true → IsReached next objects roots name

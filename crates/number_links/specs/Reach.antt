@@ -2,7 +2,7 @@
 use Rattle.std.specs.Prelude.{◌≡◌, ◌&&◌, ℕ, Bool, true, false, not, List, None, Contains}
 use Rattle.number_links.specs.Known.{Known, known}
 
--- a number is reached: it is a root that is allowed, or an allowed one that a reached one leads to
+-- a number is reached: it is allowed, and it is a root or follows from a reached number
 pub data IsReached (next : ℕ → List ℕ) (allowed : ℕ → Bool) (roots : List ℕ) : ℕ → Type 0 where
   Root : (n : ℕ) → Contains roots n → allowed n ≡ true → IsReached next allowed roots n
   Next : (from n : ℕ) → IsReached next allowed roots from → Contains (next from) n → allowed n ≡ true → IsReached next allowed roots n

@@ -1,5 +1,8 @@
 """What is kept of reads: the objects that were read last, for all who see them and for nobody else."""
 import os
+import re
+import shutil
+import subprocess
 
 from lib.checks import Checks
 from lib.folder import Folder
@@ -137,19 +140,45 @@ def asks_links(checks: Checks, live, commits):
     checks.same("a prune", b"ok\n", live.asked(ALICE, b"prune\n"))
 
 
-def show_links_are_known(checks: Checks, program, work):
-    """After a push, and after a start, links are followed although no tree and no commit can be read."""
-    folder = Folder(os.path.join(work, "links"))
+def made_history():
+    """A blob, the tree that has it, and four commits of this tree: a root, two after it, and one that merges these."""
     blob = b"linked"
     tree = b"100644 file\0" + bytes.fromhex(name_of(b"blob", blob).decode())
     root = commit_of(name_of(b"tree", tree), 1)
     left = commit_of(name_of(b"tree", tree), 2, name_of(b"commit", root))
     right = commit_of(name_of(b"tree", tree), 3, name_of(b"commit", root))
-    top = commit_of(name_of(b"tree", tree), 4, name_of(b"commit", left), name_of(b"commit", right))
-    commits = [root, left, right, top]
+    return blob, tree, [root, left, right, commit_of(name_of(b"tree", tree), 4, name_of(b"commit", left), name_of(b"commit", right))]
+
+
+def sent_history(blob, tree, commits):
+    """A push of them, each before what it leads to."""
+    records = [*(record(b"commit", commit) for commit in reversed(commits)), record(b"tree", tree), record(b"blob", blob)]
+    return b"push r\ncreate refs/heads/main %s\n\n" % name_of(b"commit", commits[-1]) + b"".join(records)
+
+
+def show_push_opens_nothing(checks: Checks, program, work):
+    """By strace: a push in one body opens no file of an object that it wrote, and not what it wrote before."""
+    if not shutil.which("strace"):
+        raise OSError("there is no strace, by which calls are seen")
+    folder, log = Folder(os.path.join(work, "opened")), os.path.join(work, "calls")
+    given = frames([(ALICE, b"init r\n"), (ALICE, sent_history(*made_history()))])
+    words = ["strace", "-f", "-qq", "-o", log, "-e", "trace=openat,write", program.path, "run", "--dir", folder.path, *TENANTS]
+    ran = subprocess.run(words, input=given, capture_output=True, check=False)
+    checks.same("a push", (0, framed(b"ok\n") * 2), (ran.returncode, ran.stdout))
+    with open(log, encoding="utf-8", errors="replace") as file:
+        lines = file.read().splitlines()
+    told = max(at for at, line in enumerate(lines) if "write(1," in line)
+    opened = [line for line in lines[:told] if re.search("/objects/[0-9a-f]{2}/", line) and not re.search("O_DIRECTORY| = -1 ", line)]
+    checks.same("each file is made", len(folder.files()), sum("O_CREAT" in line for line in opened))
+    checks.same("and none is opened", [], [line for line in opened if "O_CREAT" not in line])
+
+
+def show_links_are_known(checks: Checks, program, work):
+    """After a push, and after a start, links are followed although no tree and no commit can be read."""
+    folder = Folder(os.path.join(work, "links"))
+    blob, tree, commits = made_history()
     names = [name_of(b"commit", commit) for commit in commits]
-    records = [record(b"blob", blob), record(b"tree", tree), *(record(b"commit", commit) for commit in commits)]
-    sent = b"push r\ncreate refs/heads/main %s\n\n" % names[-1] + b"".join(records)
+    sent = sent_history(blob, tree, commits)
     unread = [(tree, b"tree"), *((commit, b"commit") for commit in commits)]
     live = begun(checks, program, "--dir", folder.path)
     checks.same("a push", b"ok\n", live.asked(ALICE, sent))

@@ -8,6 +8,7 @@ import time
 from client.killed import anew, great
 from front.front import BYTES
 from lib.making import everything, line
+from lib.waiting import until
 from lib.watching import Watcher
 from lib.world import killed
 
@@ -34,7 +35,7 @@ def show_killed(world):
         ran = world.git(None, "ls-remote", world.url("r"), "refs/heads/main")
         there = [row.replace("\t", " ") for row in ran.output.decode().splitlines()]
         checks.same(f"kill {number}: the branch is there, or not", (0, True), (ran.status, there in ([], rows)))
-        world.succeeds(f"kill {number}: the next push", world.ran(*words, at="source"))
+        world.succeeds(f"kill {number}: the next push", next_push(world, words))
         checks.same(f"kill {number}: all is there", rows, world.kept("r"))
         checks.same(f"kill {number}: the cache", world.reached("source"), world.in_cache())
     world.same_clone("after kills")
@@ -43,17 +44,31 @@ def show_killed(world):
     world.host.ends_well(checks, "after kills")
 
 
-def hook_of(world):
-    """The process of this test that asks the host for what was pushed, or nothing."""
+def next_push(world, words):
+    """The push after one whose client was killed. The server may do that one all the same, and at this moment too: then
+    this one is refused, since the branch is another than it was told, and is pushed again."""
+    until(lambda: not servers_of(world))
+    ran = world.ran(*words, at="source")
+    return world.ran(*words, at="source") if b"(stale info)" in ran.fault else ran
+
+
+def servers_of(world):
+    """The processes of the front end of this test, with their words."""
     place = f"FORKHOST_SETTINGS={world.path('front')}".encode()
+    found = {}
     for name in filter(str.isdigit, os.listdir("/proc")):
         try:
             with open(f"/proc/{name}/cmdline", "rb") as words, open(f"/proc/{name}/environ", "rb") as outer:
-                if b"proc-receive" in words.read() and place in outer.read().split(b"\0"):
-                    return int(name)
+                if place in outer.read().split(b"\0"):
+                    found[int(name)] = words.read()
         except OSError:
             pass
-    return None
+    return found
+
+
+def hook_of(world):
+    """The process of this test that asks the host for what was pushed, or nothing."""
+    return next((process for process, words in servers_of(world).items() if b"proc-receive" in words), None)
 
 
 def show_hook_killed(world):

@@ -15,8 +15,10 @@ ghost use Rattle.fork_reach.specs.Source.{kind_in};
 ghost use Rattle.fork_ledger.specs.AllStaged.{MeetsAmong, StoresAmong, with_all_staged};
 ghost use Rattle.fork_ledger.specs.Private.{with_discarded, with_kept, with_published};
 ghost use Rattle.fork_ledger.specs.Store.{AsksStore, LeavesStore, Recalls};
+ghost use Rattle.fork_ledger.specs.Surveyed.{IsKnown};
 ghost use Rattle.fork_ledger.specs.Tenants.{at_tenant, private_of, shape_of};
 ghost use Rattle.fork_ledger.specs.Used.{capped};
+ghost use Rattle.fork_push.specs.Here.{AreThere};
 ghost use Rattle.fork_push.specs.Push.{judged};
 ghost use Rattle.fork_push.specs.Verdict.{IfAccepted, IsAcceptable, TellsJudged, fault_of_verdict};
 ghost use Rattle.fork_host.specs.Bounds.{ReadsStore};
@@ -118,15 +120,17 @@ impl<'a, S: LooseFiles> Own<'a, S> {
 
     // The same, following only the parents of commits.
     pub(crate) fn history_seen(
-        &self,
+        &mut self,
         alloc: Global,
         wanted: &[Name],
         excluded: &[Name],
     ) -> Result<Option<IndexSet<Name, Hashing>>, AllocError>
-        ensures found { IsTrue self.now.vault.now.honest → IfOk result (λ known. IfSome known (λ found. (name : List ℕ) → contains same_name found name ≡ is_between (parent_names (visible_by self.now)) (visible_by self.now) wanted.now excluded.now name)) }
+        ensures found { IsTrue self.old.vault.now.honest → IfOk result (λ known. IfSome known (λ found. (name : List ℕ) → contains same_name found name ≡ is_between (parent_names (visible_by self.old)) (visible_by self.old) wanted.now excluded.now name)) }
 
         // Over any store.
-        ensures there { IfOk result (λ known. IfSome known (λ found. (name : List ℕ) → contains same_name found name ≡ true → map.contains_key (visible_by self.now) name ≡ true)) }
+        ensures there { IfOk result (λ known. IfSome known (λ found. (name : List ℕ) → contains same_name found name ≡ true → map.contains_key (visible_by self.old) name ≡ true)) }
+        ensures vault { self.new.vault.now ≡ self.old.vault.now }
+        ensures same { IsSame self.old self.new }
     {
         self.vault
             .known_history(alloc, self.tenant, wanted, excluded)
@@ -198,15 +202,16 @@ impl<'a, S: LooseFiles> Own<'a, S> {
         self.vault.get_staged(alloc, self.tenant, name)
     }
 
-    // Stages objects, in order. On an `Err` none is staged.
+    // Stages objects, in order. On an `Err` none is staged. Returns those that have links, unless the store keeps them.
     pub(crate) fn stage_all(
         &mut self,
         alloc: Global,
         objects: Vec<Sealed>,
-    ) -> Result<(), VaultFault>
+    ) -> Result<Vec<Sealed>, VaultFault>
         ensures ok { IsTrue self.old.vault.now.honest → OnOk result (self.new.vault.now.tenants ≡ at_tenant self.old.vault.now.tenants self.old.tenant.now (with_all_staged objects.items)) }
         ensures err { IsTrue self.old.vault.now.honest → OnErr result (self.new.vault.now.tenants ≡ self.old.vault.now.tenants) }
         ensures came { IsTrue self.old.vault.now.honest → map.contains_key self.old.vault.now.tenants self.old.tenant.now ≡ true → OnOk result (AllByRecursion (λ object. map.get (private_of self.new.vault.now.tenants self.old.tenant.now).staged (object_name object) ≡ Some object) objects.items) }
+        ensures back { IsTrue self.old.vault.now.honest → map.contains_key self.old.vault.now.tenants self.old.tenant.now ≡ true → IfOk result (λ back. AreThere (both_by self.new) back.items) }
         ensures stored { IsTrue self.old.vault.now.honest → OnOk result (StoresAmong objects.items self.old.vault.now.files self.new.vault.now.files) }
         ensures collision { IsTrue self.old.vault.now.honest → IfErr result (λ fault. fault ≡ VaultFault.Collision → MeetsAmong objects.items self.old.vault.now.files) }
         ensures still { IsTrue self.old.vault.now.honest → IfErr result (λ fault. fault ≡ VaultFault.Collision → StoresAmong objects.items self.old.vault.now.files self.new.vault.now.files) }
@@ -221,8 +226,9 @@ impl<'a, S: LooseFiles> Own<'a, S> {
         self.vault.stage_all(alloc, self.tenant, objects)
     }
 
-    // Stages the object of this name, if a survey of the store found it with this kind and length.
+    // Stages the object of this name, kind and length, whose file is known to be whole.
     pub(crate) fn recall(&mut self, name: Name, kind: Kind, length: u64) -> Result<(), RecallFault>
+        requires { IsKnown self.old.vault.now.honest self.old.vault.now.files name kind length }
         ensures recalls { OnOk result (Recalls self.old.vault.now.honest self.old.tenant.now name self.old.vault.now.files self.old.vault.now.tenants self.new.vault.now.tenants) }
         ensures err { OnErr result (self.new.vault.now.tenants ≡ self.old.vault.now.tenants) }
         ensures files { self.new.vault.now.files ≡ self.old.vault.now.files }
@@ -293,14 +299,16 @@ impl<'a, S: LooseFiles> Own<'a, S> {
     }
 
     // The verdict on a push into a repository with these references, over the objects that the tenant sees or has
-    // staged.
+    // staged. Those that are `here` are not read.
     pub(crate) fn judge(
         &mut self,
         alloc: Global,
+        here: &[Sealed],
         finished: &Result<Brief, StreamFault>,
         references: &Refs,
         limit: u64,
     ) -> Verdict
+        requires { IsTrue self.old.vault.now.honest → AreThere (both_by self.old) here.now }
         ensures judged { IsTrue self.old.vault.now.honest → TellsJudged (judged (both_by self.old) references.now limit (brief_shown finished.now)) result }
         ensures kept { IsTrue self.old.vault.now.honest → self.new.vault.now.tenants ≡ self.old.vault.now.tenants }
 
@@ -314,7 +322,7 @@ impl<'a, S: LooseFiles> Own<'a, S> {
             vault: &mut *self.vault,
             tenant: self.tenant,
         };
-        judge(alloc, &mut both, finished, references, limit)
+        judge(alloc, &mut both, here, finished, references, limit)
     }
 }
 

@@ -47,6 +47,7 @@ fn recall_read<S: LooseFiles>(
     readings: &Readings,
     name: Name,
 ) -> Result<(), RecallFault>
+    requires { EachRead own.old.vault.now.honest own.old.vault.now.files readings.now }
     ensures recalls { OnOk result (RecallsRead own.old.vault.now.honest own.old.tenant.now name own.old.vault.now.files own.old.vault.now.tenants own.new.vault.now.tenants (map.get readings.now name)) }
     ensures err { OnErr result (own.new.vault.now.tenants ≡ own.old.vault.now.tenants) }
     ensures files { own.new.vault.now.files ≡ own.old.vault.now.files }

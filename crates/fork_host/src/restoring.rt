@@ -53,22 +53,12 @@ impl<S: LooseFiles + Drop> Host<S> {
         }
         match later.told() {
             Some(error) => Err(error),
-            None => {
-                host.end_survey();
-                Ok(host)
-            }
+            None => Ok(host),
         }
     }
 }
 
 impl<S: LooseFiles> Host<S> {
-    // Forgets what was read of the store.
-    fn end_survey(&mut self)
-        ensures { self.new ≡ self.old }
-    {
-        self.vault.end_survey();
-    }
-
     // Appends a tenant, which sees again what it saw.
     fn restore_tenant(
         &mut self,

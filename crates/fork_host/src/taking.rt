@@ -9,6 +9,7 @@ ghost use Rattle.fork_reach.specs.Objects.{with_objects};
 ghost use Rattle.fork_request.specs.Told.{is_done};
 ghost use Rattle.fork_ledger.specs.Store.{LeavesStore};
 ghost use Rattle.fork_ledger.specs.Tenants.{shape_of};
+ghost use Rattle.fork_push.specs.Here.{AreThere};
 ghost use Rattle.fork_push.specs.Push.{judged};
 ghost use Rattle.fork_push.specs.Verdict.{IfAccepted, IsAcceptable, TellsJudged, fault_of_verdict};
 ghost use Rattle.fork_model.specs.Answer.{Finished, pushed};
@@ -88,11 +89,20 @@ fn take<S: LooseFiles>(
     let Ok(names) = names_of(alloc, sent.as_slice()) else {
         return Reply::Failed(HostFault::Memory);
     };
-    if let Err(fault) = stage_all(alloc, own, sent) {
-        return Reply::Failed(vault_fault(fault));
-    }
+    let here = match stage_all(alloc, own, sent) {
+        Ok(here) => here,
+        Err(fault) => return Reply::Failed(vault_fault(fault)),
+    };
     let brief = Brief { commands, names };
-    let reply = settle(alloc, repositories, own, limit, name, brief);
+    let reply = settle(
+        alloc,
+        repositories,
+        own,
+        here.as_slice(),
+        limit,
+        name,
+        brief,
+    );
     discard(own);
     reply
 }
@@ -133,23 +143,25 @@ pub(crate) fn settle_upload<S: LooseFiles>(
     ensures same { IsSame own.old own.new }
 {
     match finished {
-        Ok(brief) => settle(alloc, repositories, own, limit, name, brief),
+        Ok(brief) => settle(alloc, repositories, own, &[], limit, name, brief),
         Err(BodyError::Fault(fault)) => Reply::Refused(stream_refusal(fault)),
         Err(BodyError::Memory) => Reply::Failed(HostFault::Memory),
     }
 }
 
 // Judges the commands and the staged objects of these names, and takes them if they are accepted. Objects that are not
-// accepted stay staged.
+// accepted stay staged. Those that are `here` are not read.
 fn settle<S: LooseFiles>(
     alloc: Global,
     repositories: &mut Repositories,
     own: &mut Own<'_, S>,
+    here: &[Sealed],
     limit: u64,
     name: RepositoryName,
     brief: Brief,
 ) -> Reply
     requires ready { Ready own.old limit }
+    requires here { IsTrue own.old.vault.now.honest → AreThere (both_by own.old) here.now }
     requires there { map.contains_key repositories.old name ≡ true }
     ensures row { (rest : View) (sent : List Object) (was : Repository) → map.get repositories.old name ≡ Some was → IsTrue own.old.vault.now.honest
         → brief.names.items ≡ map_list object_name sent → both_by own.old ≡ with_objects (visible_by own.old) sent
@@ -164,7 +176,7 @@ fn settle<S: LooseFiles>(
     ensures same { IsSame own.old own.new }
 {
     let finished = Ok(brief);
-    match verdict(alloc, repositories, own, limit, &name, &finished) {
+    match verdict(alloc, repositories, own, here, limit, &name, &finished) {
         Verdict::Accepted(new) => accept(alloc, repositories, own, name, new),
         Verdict::Refused(refusal) => Reply::Refused(push_refusal(refusal)),
         Verdict::Failed(fault) => Reply::Failed(host_fault(fault)),
@@ -197,10 +209,12 @@ fn verdict<S: LooseFiles>(
     alloc: Global,
     repositories: &Repositories,
     own: &mut Own<'_, S>,
+    here: &[Sealed],
     limit: u64,
     name: &RepositoryName,
     finished: &Result<Brief, StreamFault>,
 ) -> Verdict
+    requires here { IsTrue own.old.vault.now.honest → AreThere (both_by own.old) here.now }
     requires there { map.contains_key repositories.now name.now ≡ true }
     ensures judged { (was : Repository) → map.get repositories.now name.now ≡ Some was → IsTrue own.old.vault.now.honest
         → TellsJudged (judged (both_by own.old) was.references limit (brief_shown finished.now)) result }
@@ -215,5 +229,5 @@ fn verdict<S: LooseFiles>(
     let Some(repository) = repositories.get(name) else {
         unreachable!();
     };
-    own.judge(alloc, finished, repository.references(), limit)
+    own.judge(alloc, here, finished, repository.references(), limit)
 }

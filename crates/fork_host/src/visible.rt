@@ -54,7 +54,7 @@ impl<S: LooseFiles> Source for Own<'_, S> {
     }
 
     fn known_history(
-        &self,
+        &mut self,
         alloc: Global,
         wanted: &[Name],
         excluded: &[Name],

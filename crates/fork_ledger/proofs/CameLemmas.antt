@@ -1,18 +1,22 @@
 -- Objects that are staged are those that came.
-use Rattle.std.proofs.Common.{◌≡◌, ℕ, Bool, true, false, cond, List, [], ◌∷◌, Option, None, Some, refl, sym, ap, subst, ◌∙◌, is_some}
+use Rattle.std.proofs.Common.{◌≡◌, ℕ, Bool, true, false, cond, List, [], ◌∷◌, Option, None, Some, Result, Ok, Err, zero, suc, refl, sym, ap, subst, ◌∙◌, is_some, arith}
+use Rattle.std.specs.Prelude.{Contains, IfOk, OnOk}
 use Rattle.std.specs.List.{AllByRecursion}
+use Rattle.std.specs.Option.{option_or}
 use Rattle.std.specs.Ordering.{eq_by_cmp, is_eq}
 use Rattle.std.specs.FinMap.{contains_key, get, get-insert, insert}
 use Rattle.std.proofs.lemmas.Cmp.{tied_itself}
 use Rattle.std.proofs.lemmas.List.Elements.{All-head, All-tail}
 use Rattle.git_name.specs.Name.{name_cmp}
 use Rattle.git_name.specs.Object.{Object, object_name}
+use Rattle.git_name.proofs.MapLemmas.{get_joined}
 use Rattle.git_name.proofs.Names.{name_total}
 use Rattle.fork_reach.specs.Source.{Objects}
 use Rattle.loose_store.specs.Files.{Files}
 use Rattle.loose_store.specs.Stored.{Whole}
 use Rattle.fork_ledger.specs.AllStaged.{AllWhole, with_all_staged}
-use Rattle.fork_ledger.specs.Private.{Awaits, Private, standing, with_staged, with_under}
+use Rattle.fork_ledger.specs.Private.{Awaits, Holds, Private, Sees, both_of, standing, with_staged, with_under}
+use Rattle.fork_ledger.specs.declared.fault.VaultFault.{VaultFault}
 use Rattle.fork_ledger.specs.Store.{IsStored}
 use Rattle.fork_ledger.specs.Tenants.{Tenants, at_tenant, private_of}
 use Rattle.fork_ledger.proofs.StoreLemmas.{one_whole}
@@ -67,3 +71,23 @@ all_came files old new t objects there is stored whole =
   where
     subst_there : {own : Private} → with_all_staged objects (private_of old t) ≡ own → AllByRecursion (λ object. contains_key own.staged (object_name object) ≡ true) objects
     subst_there same = let Is : Private → Type 0 = λ own. AllByRecursion (λ object. contains_key own.staged (object_name object) ≡ true) objects in subst Is same (all_there objects (private_of old t))
+
+-- where what is held is whole on the store, of two objects of one name that are seen and staged both are the same
+both_one : (own : Private) (files : Files) (object : Object) → ((name : List ℕ) (o : Object) → Holds own name o → Whole files name o) → get own.staged (object_name object) ≡ Some object → get (both_of own) (object_name object) ≡ Some object
+both_one own files object stored staged = get_joined name_total own.visible own.staged (object_name object) ∙ by (get own.visible (object_name object)) refl
+  where
+    by : (o : Option Object) → get own.visible (object_name object) ≡ o → option_or o (get own.staged (object_name object)) ≡ Some object
+    by None none = staged
+    by (Some seen) is = ap Some (one_whole files (object_name object) seen object (stored (object_name object) seen (Sees is)) (stored (object_name object) object (Awaits staged)))
+
+each_of : {A : Type 0} (P : A → Type 0) (xs : List A) (x : A) → AllByRecursion P xs → Contains xs x → P x
+each_of P [] x all at = absurd (omega arith)
+each_of P (first ∷ xs) x all (zero, few, is) = subst P is all.0
+each_of P (first ∷ xs) x all (suc k, few, is) = each_of P xs x all.1 (k, omega arith, is)
+
+-- of what came, each object that came back is among what is seen and staged
+pub all_back : {A : Type 0} (items : A → List Object) (own : Private) (files : Files) (objects : List Object) (r : Result A VaultFault) → ((name : List ℕ) (o : Object) → Holds own name o → Whole files name o)
+    → OnOk r (AllByRecursion (λ object. get own.staged (object_name object) ≡ Some object) objects) → IfOk r (λ back. (object : Object) → Contains (items back) object → Contains objects object)
+    → IfOk r (λ back. (object : Object) → Contains (items back) object → get (both_of own) (object_name object) ≡ Some object)
+all_back items own files objects (Ok back) stored came among = λ object is. both_one own files object stored (each_of (λ o. get own.staged (object_name o) ≡ Some o) objects object came (among object is))
+all_back items own files objects (Err fault) stored came among = tt

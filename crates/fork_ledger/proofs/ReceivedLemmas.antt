@@ -1,6 +1,7 @@
 -- Objects that are received one after another.
-use Rattle.std.proofs.Common.{◌≡◌, ◌⊎◌, inl, inr, ℕ, List, [], ◌∷◌, ◌++◌, ◌||◌, Bool, true, false, None, map, refl, sym, ap, subst, ◌∙◌, arith}
-use Rattle.std.specs.Prelude.{Contains, slice_index_or}
+use Rattle.std.proofs.Common.{◌≡◌, ◌⊎◌, inl, inr, ℕ, List, [], ◌∷◌, ◌++◌, ◌||◌, Bool, true, false, Option, None, Some, map, refl, sym, ap, subst, ◌∙◌, arith}
+use Rattle.std.specs.Prelude.{Contains, IfSome, slice_index_or}
+use Rattle.std.specs.Option.{unwrap_or}
 use Rattle.std.proofs.lemmas.List.{map-append}
 use Rattle.std.proofs.lemmas.List.Elements.{All-nil, All-push, Contains-append_left, Contains-append_right}
 use Rattle.std.specs.FinMap.{get}
@@ -98,6 +99,15 @@ regroup (z ∷ xs) x ys = ap (λ zs. z ∷ zs) (regroup xs x ys)
 pub told_more : (xs : List Object) (x : Object) → map entry_of (xs ++ x ∷ []) ≡ map entry_of xs ++ entry_of x ∷ []
 told_more [] x = refl
 told_more (z ∷ xs) x = ap (λ zs. entry_of z ∷ zs) (told_more xs x)
+
+-- what is kept was received, or is the one that came back now
+pub kept_more : (kept front : List Object) (object : Object) (back : Option Object) (other : Object) → (Contains kept other → Contains front other) → IfSome back (λ given. given ≡ object) → Contains kept other ⊎ (back ≡ Some other) → Contains (front ++ object ∷ []) other
+kept_more kept front object back other before same (inl was) = Contains-append_left front (object ∷ []) other (before was)
+kept_more kept front object back other before same (inr is) = by back same is
+  where
+    by : (o : Option Object) → IfSome o (λ given. given ≡ object) → o ≡ Some other → Contains (front ++ object ∷ []) other
+    by None none is = absurd (let wrong : ⊥ = cc in wrong)
+    by (Some given) here is = subst (Contains (front ++ object ∷ [])) (sym here ∙ ap (λ o. unwrap_or o other) is) (Contains-append_right front (object ∷ []) object (sole object))
 
 -- ---- a collision
 pub meets_among : (objects front : List Object) (object : Object) (back : List Object) (first now : Files) → objects ≡ front ++ object ∷ back → StoresAmong front first now → Meets object now → MeetsAmong objects first

@@ -1,5 +1,5 @@
 // Objects that arrive at the store.
-ghost use Rattle.std.specs.Prelude.{◌≡◌, ◌≢◌, true, false, IsTrue, IfErr, OnOk};
+ghost use Rattle.std.specs.Prelude.{◌≡◌, ◌≢◌, true, false, IsTrue, IfErr, IfOk, IfSome, OnOk};
 ghost use Rattle.std.specs.FinMap.{contains_key};
 ghost use Rattle.git_name.specs.Object.{Object, object_name};
 ghost use Rattle.git_name.specs.Count.{fault_in};
@@ -26,13 +26,14 @@ pub(crate) fn store_fault(fault: FileFault) -> VaultFault
 }
 
 // Makes sure that the file of an object is whole. A missing file is written. A whole file is compared with the object
-// and never overwritten. A damaged file is overwritten only if no tenant holds the name.
+// and never overwritten. A damaged file is overwritten only if no tenant holds the name. Returns the object, unless the
+// store keeps it.
 pub(crate) fn arrive<S: LooseFiles>(
     alloc: Global,
     files: &mut CachedStore<S>,
     is_held: bool,
     sealed: Sealed,
-) -> Result<(), VaultFault>
+) -> Result<Option<Sealed>, VaultFault>
     ensures whole { IsTrue files.old.honest → OnOk result (Whole files.new.contents (object_name sealed) sealed) }
     ensures others { IsTrue files.old.honest → SameBut (object_name sealed) files.old.contents files.new.contents }
     ensures stands { IsTrue files.old.honest → StaysWhole files.old.contents files.new.contents }
@@ -41,16 +42,19 @@ pub(crate) fn arrive<S: LooseFiles>(
         → (is_held ≡ true) × ((object : Object) → Whole files.old.contents (object_name sealed) object → ⊥)) }
     ensures collision { IsTrue files.old.honest → IfErr result (λ fault. fault ≡ VaultFault.Collision → Meets sealed files.old.contents) }
     ensures still { IsTrue files.old.honest → IfErr result (λ fault. fault ≡ VaultFault.Collision → files.new.contents ≡ files.old.contents) }
+    ensures back { IfOk result (λ back. IfSome back (λ given. given ≡ sealed)) }
     ensures honest { files.new.honest ≡ files.old.honest }
     ensures cause { CountsFault files.old.failures files.new.failures (fault_in result) }
 {
     let name = sealed.name();
     match files.read_past(alloc, name) {
         Ok(Some(found)) => {
-            if is_same(&found, &sealed) {
-                rely_on(files, name)
-            } else {
-                Err(VaultFault::Collision)
+            if !is_same(&found, &sealed) {
+                return Err(VaultFault::Collision);
+            }
+            match rely_on(files, name) {
+                Ok(()) => Ok(Some(sealed)),
+                Err(fault) => Err(fault),
             }
         }
         Ok(None) => put_whole(alloc, files, sealed),
@@ -84,21 +88,22 @@ fn rely_on<S: LooseFiles>(files: &mut CachedStore<S>, name: Name) -> Result<(), 
     }
 }
 
-// Writes the file of an object.
+// Writes the file of an object. Returns the object, unless the store keeps it.
 fn put_whole<S: LooseFiles>(
     alloc: Global,
     files: &mut CachedStore<S>,
     sealed: Sealed,
-) -> Result<(), VaultFault>
+) -> Result<Option<Sealed>, VaultFault>
     ensures whole { IsTrue files.old.honest → OnOk result (Whole files.new.contents (object_name sealed) sealed) }
     ensures others { IsTrue files.old.honest → SameBut (object_name sealed) files.old.contents files.new.contents }
+    ensures back { IfOk result (λ back. IfSome back (λ given. given ≡ sealed)) }
     ensures honest { files.new.honest ≡ files.old.honest }
     ensures cause { CountsFault files.old.failures files.new.failures (fault_in result) }
     ensures undamaged { IfErr result (λ fault. fault ≢ VaultFault.Damaged) }
     ensures apart { IfErr result (λ fault. fault ≢ VaultFault.Collision) }
 {
     match files.put(alloc, sealed) {
-        Ok(()) => Ok(()),
+        Ok(back) => Ok(back),
         Err(FileFault::Device) => Err(VaultFault::Store),
         Err(FileFault::Memory) => Err(VaultFault::Memory),
     }

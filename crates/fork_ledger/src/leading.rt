@@ -4,7 +4,7 @@ ghost use Rattle.std.specs.FinMap.{get};
 ghost use Rattle.git_name.specs.Object.{Object, object_name};
 ghost use Rattle.git_name.specs.Count.{fault_in};
 ghost use Rattle.loose_store.specs.Stored.{Whole};
-ghost use Rattle.fork_ledger.specs.Led.{AreLed, learned_of};
+ghost use Rattle.fork_ledger.specs.Led.{AreLed, LearnsOf, learned_of};
 ghost use Rattle.number_links.specs.Facts.{Learned};
 ghost use Rattle.fork_ledger.specs.Store.{CountsFault};
 
@@ -40,6 +40,18 @@ pub(crate) fn learn_links(
         return;
     };
     holdings.learn(alloc, name, names.as_slice(), time);
+}
+
+// Learns the links and the times of these objects.
+pub(crate) fn learn_all(alloc: Global, holdings: &mut Holdings, objects: &[Sealed])
+    ensures ledgers { holdings.new.ledgers ≡ holdings.old.ledgers }
+    ensures catalogue { holdings.new.catalogue ≡ holdings.old.catalogue }
+    ensures links { LearnsOf objects.now holdings.old.links holdings.new.links }
+{
+    for sealed in objects {
+        let bytes = sealed.bytes();
+        learn_links(alloc, holdings, sealed.name(), sealed.kind(), bytes);
+    }
 }
 
 // Reads the object of a name that some tenant holds, and learns its links.

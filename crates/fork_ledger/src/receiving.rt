@@ -1,5 +1,5 @@
 // Receives objects: adds their names to the catalogue, and writes their files to the store.
-ghost use Rattle.std.specs.Prelude.{◌≡◌, ◌||◌, ◌∷◌, [], true, List, ℕ, IsTrue, IfErr, IfOk, OnOk, map as map_list};
+ghost use Rattle.std.specs.Prelude.{◌≡◌, ◌⊎◌, ◌||◌, ◌∷◌, [], true, List, ℕ, Contains, Some, IsTrue, IfErr, IfOk, IfSome, OnOk, map as map_list};
 ghost use Rattle.git_name.specs.Object.{Object, object_name};
 ghost use Rattle.git_name.specs.Same.{is_listed, same_name};
 ghost use Rattle.git_name.specs.Count.{fault_in};
@@ -15,20 +15,21 @@ ghost use Rattle.fork_ledger.specs.Store.{CountsFault, Meets, StoresAlone};
 
 use crate::arrival::arrive;
 use crate::fault::VaultFault;
-use git_name::Sealed;
+use git_name::{Kind, Sealed};
 use loose_store::LooseFiles;
 use object_table::{Entry, Holdings};
 use read_cache::CachedStore;
 use std::alloc::{AllocError, Global};
 
-// Adds an object's name to the catalogue, and makes sure that its file is whole.
+// Adds an object's name to the catalogue, and makes sure that its file is whole. Returns the object, unless the store
+// keeps it.
 #[tactic(auto, using(crate::proofs::StoredLemmas::stores_alone))]
 pub(crate) fn receive<S: LooseFiles>(
     alloc: Global,
     files: &mut CachedStore<S>,
     holdings: &mut Holdings,
     sealed: Sealed,
-) -> Result<(), VaultFault>
+) -> Result<Option<Sealed>, VaultFault>
     ensures ledgers { holdings.new.ledgers ≡ holdings.old.ledgers }
     ensures links { holdings.new.links ≡ holdings.old.links }
     ensures listed { OnOk result ((q : List ℕ) → is_listed (places_of holdings.new.catalogue).names q ≡ (same_name (object_name sealed) q || is_listed (places_of holdings.old.catalogue).names q)) }
@@ -43,6 +44,7 @@ pub(crate) fn receive<S: LooseFiles>(
         → (is_held_in holdings.old.ledgers (object_name sealed) ≡ true) × ((object : Object) → Whole files.old.contents (object_name sealed) object → ⊥)) }
     ensures collision { IsTrue files.old.honest → IfErr result (λ fault. fault ≡ VaultFault.Collision → Meets sealed files.old.contents) }
     ensures still { IsTrue files.old.honest → IfErr result (λ fault. fault ≡ VaultFault.Collision → files.new.contents ≡ files.old.contents) }
+    ensures back { IfOk result (λ back. IfSome back (λ given. given ≡ sealed)) }
     ensures honest { files.new.honest ≡ files.old.honest }
     ensures cause { CountsFault files.old.failures files.new.failures (fault_in result) }
 {
@@ -51,10 +53,10 @@ pub(crate) fn receive<S: LooseFiles>(
         return Err(VaultFault::Memory);
     };
     let is_held = holdings.is_held(name);
-    if let Err(fault) = arrive(alloc, files, is_held, sealed) {
-        return Err(fault);
+    match arrive(alloc, files, is_held, sealed) {
+        Ok(back) => Ok(back),
+        Err(fault) => Err(fault),
     }
-    Ok(())
 }
 
 // The ledger entries of these objects, in the same order.
@@ -68,13 +70,27 @@ pub(crate) fn entries_of(alloc: Global, objects: &[Sealed]) -> Result<Vec<Entry>
     Ok(entries)
 }
 
-// Receives objects, in order. After an `Err` the objects before the fault stay received.
+// Keeps an object that the store gave back, if it has links and there is memory for it.
+fn keep(back: Option<Sealed>, kept: &mut Vec<Sealed>)
+    ensures { (object : Object) → Contains kept.new.items object → Contains kept.old.items object ⊎ (back ≡ Some object) }
+{
+    let Some(sealed) = back else {
+        return;
+    };
+    if matches!(sealed.kind(), Kind::Blob) {
+        return;
+    }
+    let _kept = kept.push(sealed);
+}
+
+// Receives objects, in order. Returns those that have links, unless the store keeps them. After an `Err` the objects
+// before the fault stay received.
 pub(crate) fn receive_all<S: LooseFiles>(
     alloc: Global,
     files: &mut CachedStore<S>,
     holdings: &mut Holdings,
     objects: Vec<Sealed>,
-) -> Result<(), VaultFault>
+) -> Result<Vec<Sealed>, VaultFault>
     ensures ledgers { holdings.new.ledgers ≡ holdings.old.ledgers }
     ensures links { holdings.new.links ≡ holdings.old.links }
     ensures listed { OnOk result (AreListed (places_of holdings.new.catalogue) (map_list entry_of objects.items)) }
@@ -86,13 +102,16 @@ pub(crate) fn receive_all<S: LooseFiles>(
         → (name : List ℕ) × (is_held_in holdings.old.ledgers name ≡ true) × ((object : Object) → Whole files.old.contents name object → ⊥)) }
     ensures collision { IsTrue files.old.honest → IfErr result (λ fault. fault ≡ VaultFault.Collision → MeetsAmong objects.items files.old.contents) }
     ensures still { IsTrue files.old.honest → IfErr result (λ fault. fault ≡ VaultFault.Collision → StoresAmong objects.items files.old.contents files.new.contents) }
+    ensures back { IfOk result (λ back. (object : Object) → Contains back.items object → Contains objects.items object) }
     ensures honest { files.new.honest ≡ files.old.honest }
     ensures cause { CountsFault files.old.failures files.new.failures (fault_in result) }
 {
+    let mut kept = Vec::new(alloc);
     for sealed in objects {
-        if let Err(fault) = receive(alloc, files, holdings, sealed) {
-            return Err(fault);
+        match receive(alloc, files, holdings, sealed) {
+            Ok(back) => keep(back, &mut kept),
+            Err(fault) => return Err(fault),
         }
     }
-    Ok(())
+    Ok(kept)
 }

@@ -1,13 +1,14 @@
 // Stages objects for a tenant: adds their names to the catalogue, their files to the store, and their words to the
 // tenant's ledger. If some ledger has one of these names with another kind or length, the objects are refused before
 // anything is read.
-ghost use Rattle.std.specs.Prelude.{◌≡◌, ◌∷◌, [], true, false, List, ℕ, Contains, Err, IsTrue, IfErr, OnErr, OnOk, length, map as map_list};
+ghost use Rattle.std.specs.Prelude.{◌≡◌, ◌∷◌, [], true, false, List, ℕ, Contains, Err, IsTrue, IfErr, IfOk, OnErr, OnOk, length, map as map_list};
 ghost use Rattle.std.specs.List.{All};
 ghost use Rattle.git_name.specs.Object.{Object, object_name};
 ghost use Rattle.git_name.specs.Count.{fault_in};
 ghost use Rattle.looks.specs.Growth.{GrowsAmong};
 ghost use Rattle.object_table.specs.Rows.{places_of};
-ghost use Rattle.object_table.specs.AllStaged.{all_staged_words};
+ghost use Rattle.object_table.specs.AllStaged.{AreListed, all_staged_words};
+ghost use Rattle.object_table.specs.Clashes.{Clash};
 ghost use Rattle.object_table.specs.Holders.{is_held_in};
 ghost use Rattle.object_table.specs.Ledgers.{at_ledger};
 ghost use Rattle.object_table.specs.Told.{entry_of};
@@ -15,10 +16,12 @@ ghost use Rattle.object_table.specs.Words.{staged_words};
 ghost use Rattle.loose_store.specs.Stored.{Whole};
 ghost use Rattle.fork_ledger.specs.AllStaged.{IsAsTold, MeetsAmong, Receives, StaysWhole, StoresAmong};
 ghost use Rattle.fork_ledger.specs.Kept.{Covers, HasFiles, IsExact, KeepsHeld};
+ghost use Rattle.fork_ledger.specs.Led.{AreLed, LearnsOf};
 ghost use Rattle.fork_ledger.specs.Shown.{tenants_of};
 ghost use Rattle.fork_ledger.specs.Store.{CountsFault, IsStored, Meets, StoresAlone};
 
 use crate::fault::VaultFault;
+use crate::leading::learn_all;
 use crate::receiving::{entries_of, receive, receive_all};
 use fork_request::TenantName;
 use git_name::Sealed;
@@ -87,29 +90,29 @@ fn stage_fit<S: LooseFiles>(
     ensures cause { CountsFault files.old.failures files.new.failures (fault_in result) }
 {
     let entry = Entry::of(&sealed);
-    match receive(alloc, files, holdings, sealed) {
-        Ok(()) => {
-            match holdings.stage(tenant, entry.name, entry.kind, entry.length) {
-                Ok(()) => Ok(()),
-                Err(StageFault::Memory) => Err(VaultFault::Memory),
-                Err(StageFault::Clash) => unreachable!(),
-            }
-        }
-        Err(fault) => Err(fault),
+    if let Err(fault) = receive(alloc, files, holdings, sealed) {
+        return Err(fault);
+    }
+    match holdings.stage(tenant, entry.name, entry.kind, entry.length) {
+        Ok(()) => Ok(()),
+        Err(StageFault::Memory) => Err(VaultFault::Memory),
+        Err(StageFault::Clash) => unreachable!(),
     }
 }
 
-// Does the same for several objects, in order. On an `Err` none is staged.
+// Does the same for several objects, in order. On an `Err` none is staged. Returns those that have links, unless the
+// store keeps them.
 pub(crate) fn stage_all_whole<S: LooseFiles>(
     alloc: Global,
     files: &mut CachedStore<S>,
     holdings: &mut Holdings,
     tenant: &TenantName,
     objects: Vec<Sealed>,
-) -> Result<(), VaultFault>
+) -> Result<Vec<Sealed>, VaultFault>
     ensures ok { OnOk result (holdings.new.ledgers ≡ at_ledger holdings.old.ledgers tenant.now (all_staged_words (map_list entry_of objects.items))) }
     ensures err { OnErr result (holdings.new.ledgers ≡ holdings.old.ledgers) }
-    ensures links { holdings.new.links ≡ holdings.old.links }
+    ensures links { LearnsOf objects.items holdings.old.links holdings.new.links }
+    ensures led { IsTrue files.old.honest → AreLed holdings.old.links files.old.contents → AreLed holdings.new.links files.new.contents }
     ensures grows { GrowsAmong (map_list object_name objects.items) (places_of holdings.old.catalogue) (places_of holdings.new.catalogue) }
     ensures receives { IsTrue files.old.honest → OnOk result (Receives objects.items files.old.contents files.new.contents (places_of holdings.old.catalogue) (places_of holdings.new.catalogue)) }
     ensures stands { IsTrue files.old.honest → StaysWhole files.old.contents files.new.contents }
@@ -119,6 +122,7 @@ pub(crate) fn stage_all_whole<S: LooseFiles>(
     ensures collision { IsTrue files.old.honest → IsStored (tenants_of files.old.contents holdings.old.ledgers) files.old.contents → IfErr result (λ fault. fault ≡ VaultFault.Collision → MeetsAmong objects.items files.old.contents) }
     ensures met { (object : Object) → Contains objects.items object → (IsAsTold holdings.old.ledgers object → ⊥) → (result ≡ Err VaultFault.Collision) × (files.new ≡ files.old) × (holdings.new ≡ holdings.old) }
     ensures still { IsTrue files.old.honest → IfErr result (λ fault. fault ≡ VaultFault.Collision → StoresAmong objects.items files.old.contents files.new.contents) }
+    ensures back { IfOk result (λ back. (object : Object) → Contains back.items object → Contains objects.items object) }
     ensures honest { files.new.honest ≡ files.old.honest }
     ensures cause { CountsFault files.old.failures files.new.failures (fault_in result) }
 {
@@ -149,11 +153,12 @@ fn stage_all_fit<S: LooseFiles>(
     holdings: &mut Holdings,
     tenant: &TenantName,
     objects: Vec<Sealed>,
-) -> Result<(), VaultFault>
+) -> Result<Vec<Sealed>, VaultFault>
     requires told { All (IsAsTold holdings.old.ledgers) objects.items }
     ensures ok { OnOk result (holdings.new.ledgers ≡ at_ledger holdings.old.ledgers tenant.now (all_staged_words (map_list entry_of objects.items))) }
     ensures err { OnErr result (holdings.new.ledgers ≡ holdings.old.ledgers) }
-    ensures links { holdings.new.links ≡ holdings.old.links }
+    ensures links { LearnsOf objects.items holdings.old.links holdings.new.links }
+    ensures led { IsTrue files.old.honest → AreLed holdings.old.links files.old.contents → AreLed holdings.new.links files.new.contents }
     ensures grows { GrowsAmong (map_list object_name objects.items) (places_of holdings.old.catalogue) (places_of holdings.new.catalogue) }
     ensures receives { IsTrue files.old.honest → OnOk result (Receives objects.items files.old.contents files.new.contents (places_of holdings.old.catalogue) (places_of holdings.new.catalogue)) }
     ensures stands { IsTrue files.old.honest → StaysWhole files.old.contents files.new.contents }
@@ -162,18 +167,43 @@ fn stage_all_fit<S: LooseFiles>(
         → (name : List ℕ) × (is_held_in holdings.old.ledgers name ≡ true) × ((object : Object) → Whole files.old.contents name object → ⊥)) }
     ensures collision { IsTrue files.old.honest → IfErr result (λ fault. fault ≡ VaultFault.Collision → MeetsAmong objects.items files.old.contents) }
     ensures still { IsTrue files.old.honest → IfErr result (λ fault. fault ≡ VaultFault.Collision → StoresAmong objects.items files.old.contents files.new.contents) }
+    ensures back { IfOk result (λ back. (object : Object) → Contains back.items object → Contains objects.items object) }
     ensures honest { files.new.honest ≡ files.old.honest }
     ensures cause { CountsFault files.old.failures files.new.failures (fault_in result) }
 {
     let Ok(entries) = entries_of(alloc, objects.as_slice()) else {
         return Err(VaultFault::Memory);
     };
-    if let Err(fault) = receive_all(alloc, files, holdings, objects) {
-        return Err(fault);
-    }
-    match holdings.stage_all(tenant, entries.as_slice()) {
-        Ok(()) => Ok(()),
+    let received = match receive_all(alloc, files, holdings, objects) {
+        Ok(received) => received,
+        Err(fault) => return Err(fault),
+    };
+    match stage_received(alloc, holdings, tenant, entries.as_slice(), received) {
+        Ok(back) => Ok(back),
         Err(StageFault::Memory) => Err(VaultFault::Memory),
         Err(StageFault::Clash) => Err(VaultFault::Collision),
     }
+}
+
+// Stages received objects by their ledger entries, and learns the links of those that are here. Returns these.
+fn stage_received(
+    alloc: Global,
+    holdings: &mut Holdings,
+    tenant: &TenantName,
+    entries: &[Entry],
+    received: Vec<Sealed>,
+) -> Result<Vec<Sealed>, StageFault>
+    requires listed { AreListed (places_of holdings.old.catalogue) entries.now }
+    ensures ok { OnOk result (holdings.new.ledgers ≡ at_ledger holdings.old.ledgers tenant.now (all_staged_words entries.now)) }
+    ensures err { OnErr result (holdings.new.ledgers ≡ holdings.old.ledgers) }
+    ensures clash { IfErr result (λ fault. fault ≡ StageFault.Clash → Clash holdings.old.ledgers entries.now) }
+    ensures places { places_of holdings.new.catalogue ≡ places_of holdings.old.catalogue }
+    ensures links { LearnsOf received.items holdings.old.links holdings.new.links }
+    ensures back { IfOk result (λ back. back.items ≡ received.items) }
+{
+    if let Err(fault) = holdings.stage_all(tenant, entries) {
+        return Err(fault);
+    }
+    learn_all(alloc, holdings, received.as_slice());
+    Ok(received)
 }

@@ -69,7 +69,7 @@ impl<S: LooseFiles> Survey<S> {
         ensures counted { CountsFault self.old.failures self.new.failures (fault_in result) }
         ensures cause { IfErr result (λ fault. (fault ≡ VaultFault.Store) ⊎ (fault ≡ VaultFault.Memory)) }
     {
-        match self.files.survey(alloc, name) {
+        match self.files.read_past(alloc, name) {
             Ok(Some(sealed)) => {
                 learn_links(
                     alloc,

@@ -21,6 +21,7 @@ ghost use Rattle.fork_ledger.specs.Harms.{AreFound};
 ghost use Rattle.fork_ledger.specs.Kept.{IsExact, TakesAway};
 ghost use Rattle.fork_ledger.specs.Private.{AreAlike, AreAmong, both_of, held_in, with_adopted, with_discarded, with_kept, with_published, with_staged};
 ghost use Rattle.fork_ledger.specs.Store.{AsksStore, HoldOne, IsOver, LeavesStore, Meets, MeetsHeld, Recalls, StoresAlone};
+ghost use Rattle.fork_ledger.specs.Surveyed.{IsKnown};
 ghost use Rattle.fork_ledger.specs.Swept.{IsAccounted};
 ghost use Rattle.fork_ledger.specs.Taken.{is_taken};
 ghost use Rattle.fork_ledger.specs.Tenants.{at_tenant, private_of, shape_of, with_tenant};
@@ -31,7 +32,7 @@ use crate::fault::VaultFault;
 use crate::harms::Harms;
 use crate::held::{Held, held_of};
 use crate::leading::{learn_links, read_and_learn};
-use crate::recalling::{RecallFault, recall_known};
+use crate::recalling::{RecallFault, recall};
 use crate::staging::{stage_all_whole, stage_whole};
 use crate::survey::Survey;
 use crate::sweeping::{collect, sweep};
@@ -242,16 +243,17 @@ impl<S: LooseFiles> Vault<S> {
     /// along the parents of commits. Returns `None` if the links of an object on the way are not known. Does not ask
     /// the store.
     pub fn known_history(
-        &self,
+        &mut self,
         alloc: Global,
         tenant: &TenantName,
         wanted: &[Name],
         excluded: &[Name],
     ) -> Result<Option<IndexSet<Name, Hashing>>, AllocError>
-        ensures found { IsTrue self.now.honest → IfOk result (λ known. IfSome known (λ found. (name : List ℕ) → contains same_name found name ≡ is_between (parent_names (private_of self.now.tenants tenant.now).visible) (private_of self.now.tenants tenant.now).visible wanted.now excluded.now name)) }
+        ensures same { self.new ≡ self.old }
+        ensures found { IsTrue self.old.honest → IfOk result (λ known. IfSome known (λ found. (name : List ℕ) → contains same_name found name ≡ is_between (parent_names (private_of self.old.tenants tenant.now).visible) (private_of self.old.tenants tenant.now).visible wanted.now excluded.now name)) }
 
         // Over any store.
-        ensures there { IfOk result (λ known. IfSome known (λ found. (name : List ℕ) → contains same_name found name ≡ true → map.contains_key (private_of self.now.tenants tenant.now).visible name ≡ true)) }
+        ensures there { IfOk result (λ known. IfSome known (λ found. (name : List ℕ) → contains same_name found name ≡ true → map.contains_key (private_of self.old.tenants tenant.now).visible name ≡ true)) }
     {
         self.holdings.history(alloc, tenant, wanted, excluded)
     }
@@ -333,10 +335,11 @@ impl<S: LooseFiles> Vault<S> {
         alloc: Global,
         tenant: &TenantName,
         objects: Vec<Sealed>,
-    ) -> Result<(), VaultFault>
+    ) -> Result<Vec<Sealed>, VaultFault>
         ensures ok { IsTrue self.old.honest → OnOk result (self.new.tenants ≡ at_tenant self.old.tenants tenant.now (with_all_staged objects.items)) }
         ensures err { IsTrue self.old.honest → OnErr result (self.new.tenants ≡ self.old.tenants) }
         ensures came { IsTrue self.old.honest → map.contains_key self.old.tenants tenant.now ≡ true → OnOk result (AllByRecursion (λ object. map.get (private_of self.new.tenants tenant.now).staged (object_name object) ≡ Some object) objects.items) }
+        ensures back { IsTrue self.old.honest → map.contains_key self.old.tenants tenant.now ≡ true → IfOk result (λ back. (object : Object) → Contains back.items object → map.get (both_of (private_of self.new.tenants tenant.now)) (object_name object) ≡ Some object) }
         ensures stored { IsTrue self.old.honest → OnOk result (StoresAmong objects.items self.old.files self.new.files) }
         ensures collision { IsTrue self.old.honest → IfErr result (λ fault. fault ≡ VaultFault.Collision → MeetsAmong objects.items self.old.files) }
         ensures still { IsTrue self.old.honest → IfErr result (λ fault. fault ≡ VaultFault.Collision → StoresAmong objects.items self.old.files self.new.files) }
@@ -352,9 +355,8 @@ impl<S: LooseFiles> Vault<S> {
         stage_all_whole(alloc, &mut self.files, &mut self.holdings, tenant, objects)
     }
 
-    /// Stages the object of this name for a tenant that saw it before, if a survey of the store found it with this
-    /// kind and length. If some tenant holds the name with another kind or length, the result is `Unknown`. Does not
-    /// ask the store.
+    /// Stages the object of this name, kind and length for a tenant that saw it before. Its file is known to be whole,
+    /// since a survey read it. Does not ask the store.
     pub fn recall(
         &mut self,
         tenant: &TenantName,
@@ -362,22 +364,17 @@ impl<S: LooseFiles> Vault<S> {
         kind: Kind,
         length: u64,
     ) -> Result<(), RecallFault>
+        requires { IsKnown self.old.honest self.old.files name kind length }
         ensures recalls { OnOk result (Recalls self.old.honest tenant.now name self.old.files self.old.tenants self.new.tenants) }
         ensures err { OnErr result (self.new.tenants ≡ self.old.tenants) }
+        ensures cause { IsTrue self.old.honest → IfErr result (λ fault. fault ≡ RecallFault.Memory) }
         ensures grows { GrowsAmong (name ∷ []) self.old.places self.new.places }
         ensures exact { IsTrue self.old.honest → IsExact self.old.files self.old.places → IsExact self.new.files self.new.places }
         ensures files { self.new.files ≡ self.old.files }
         ensures honest { self.new.honest ≡ self.old.honest }
         ensures failures { self.new.failures ≡ self.old.failures }
     {
-        recall_known(&self.files, &mut self.holdings, tenant, name, kind, length)
-    }
-
-    /// Ends the survey. After this, `recall` finds nothing.
-    pub fn end_survey(&mut self)
-        ensures { self.new ≡ self.old }
-    {
-        self.files.end_survey();
+        recall(&mut self.holdings, tenant, name, kind, length)
     }
 
     /// The names of the objects that a tenant sees, in ascending order.

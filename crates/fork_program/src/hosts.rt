@@ -4,6 +4,7 @@ ghost use Rattle.fork_program.specs.Running.{IsHostOf, IsUnhosted};
 use crate::fault::Fault;
 use crate::keeping::kept_host;
 use crate::tenants::add_tenants;
+use devices::Real;
 use fork_command::Hosting;
 use fork_host::Host;
 use git_name::{Hashing, Name};
@@ -40,7 +41,7 @@ pub(crate) fn host_in_folder<'a, H: Files<File = File> + AllocGlobal + RandomSou
     alloc: Global,
     dir: &str,
     hosting: Hosting<'_>,
-) -> Result<(Host<Folder<&'a H>>, Name, Gate), Fault>
+) -> Result<(Host<Folder<Real<&'a H>>>, Name, Gate), Fault>
     requires { is_some hosting.dir ≡ true }
     ensures ok { IfOk result (λ found. IsHostOf hosting.entry found.0) }
     ensures err { IfErr result (IsUnhosted hosting.entry) }

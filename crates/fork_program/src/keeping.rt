@@ -4,6 +4,7 @@ ghost use Rattle.fork_program.specs.Keeping.{IsUnkept, IsUnopened};
 use crate::fault::Fault;
 use crate::replaying::replay;
 use crate::telling::{of_journal, of_load, of_state, of_store};
+use devices::Real;
 use fork_host::{Host, OpenError};
 use git_name::Name;
 use loose_store::{Folder, Gate, LooseFiles, has_other_journal, journal_name, read_state};
@@ -86,7 +87,7 @@ fn opened_host<'a, H: Files<File = File> + AllocGlobal + RandomSource>(
     rt: &'a H,
     alloc: Global,
     dir: &str,
-) -> Result<(Host<Folder<&'a H>>, Name, u64, Gate), Fault>
+) -> Result<(Host<Folder<Real<&'a H>>>, Name, u64, Gate), Fault>
     ensures { IfErr result IsUnkept }
 {
     let files = match Folder::open(rt, alloc, dir) {
@@ -109,7 +110,7 @@ pub fn kept_host<'a, H: Files<File = File> + AllocGlobal + RandomSource>(
     rt: &'a H,
     alloc: Global,
     dir: &str,
-) -> Result<(Host<Folder<&'a H>>, Name, Gate), Fault>
+) -> Result<(Host<Folder<Real<&'a H>>>, Name, Gate), Fault>
     ensures { IfErr result IsUnkept }
 {
     match opened_host(rt, alloc, dir) {
@@ -125,7 +126,7 @@ pub fn standing_host<'a, H: Files<File = File> + AllocGlobal + RandomSource>(
     rt: &'a H,
     alloc: Global,
     dir: &str,
-) -> Result<(Host<Folder<&'a H>>, u64), Fault>
+) -> Result<(Host<Folder<Real<&'a H>>>, u64), Fault>
     ensures { IfErr result IsUnopened }
 {
     match read_state(rt, alloc, dir) {

@@ -73,10 +73,11 @@ fn sorted(dates: Vec<Dated>) -> Vec<Dated>
 // source does not know them. Reads nothing.
 fn known_dates<S: Source>(
     alloc: Global,
-    source: &S,
+    source: &mut S,
     sides: &Sides,
 ) -> Result<Option<Vec<Dated>>, AllocError>
-    ensures { IsTrue (S.state source.now).honest → IfOk result (λ all. IfSome all (λ dates. dates.items ≡ newest_first (mapped dated (map.entries (beyond (parent_names (S.state source.now).objects) (S.state source.now).objects sides.now.wanted.items sides.now.excluded.items))))) }
+    ensures dates { IsTrue (S.state source.old).honest → IfOk result (λ all. IfSome all (λ dates. dates.items ≡ newest_first (mapped dated (map.entries (beyond (parent_names (S.state source.old).objects) (S.state source.old).objects sides.now.wanted.items sides.now.excluded.items))))) }
+    ensures asked { IsAsked (S.state source.old) (S.state source.new) None }
 {
     let Some(names) = source.known_history(
         alloc,

@@ -11,7 +11,7 @@ use Rattle.fork_reach.specs.declared.along.Along.TheVariants.{Links, Parents}
 use Rattle.git_name.proofs.MapLemmas.{get_map_values}
 use Rattle.git_name.proofs.Names.{name_total}
 use Rattle.fork_reach.specs.Along.{names_along, names_in, rests, rests_at, rests_in}
-use Rattle.fork_reach.specs.Objects.{Measures, measure_of, measures_of}
+use Rattle.fork_reach.specs.Objects.{measure_of, measures_of}
 use Rattle.fork_reach.specs.Reach.{links_of_found, parents_of_found}
 use Rattle.fork_reach.specs.Source.{Objects, kind_in}
 

@@ -12,7 +12,7 @@ use Rattle.std.proofs.lemmas.Map.Views.{any-filter_same}
 use Rattle.std.proofs.lemmas.Option.{slice_get-get_or}
 use Rattle.git_name.specs.Same.{same_name}
 use Rattle.git_name.proofs.HashMaps.{get_of_hashed, one_name}
-use Rattle.nearby.proofs.PlaceLemmas.{only_place, placed}
+use Rattle.git_name.proofs.PlaceLemmas.{only_place, placed}
 use Rattle.fork_reach.specs.History.{Note, noted_parents, notes_under, parents_of_noted}
 use Rattle.fork_reach.specs.Marks.{Fits, SeesPlaces, flag_at, is_marked, listed_name}
 use Rattle.fork_reach.proofs.NameLemmas.{same_tests}

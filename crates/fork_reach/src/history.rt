@@ -9,9 +9,8 @@ ghost use Rattle.fork_reach.specs.NotedBases.{is_best_noted};
 
 use crate::noted::Noted;
 use crate::places::Places;
-use git_name::{Hashing, Name};
+use git_name::{Hashing, Name, Nearby};
 use indexmap::IndexSet;
-use nearby::Nearby;
 use std::alloc::{AllocError, Global};
 use std::marker::Model;
 

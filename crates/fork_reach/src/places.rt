@@ -7,9 +7,8 @@ ghost use Rattle.fork_reach.specs.Marks.{Fits, SeesPlaces, is_marked, listed_nam
 ghost use Rattle.fork_reach.specs.NotedBases.{is_ancestor_noted, is_best_noted, is_common_noted, is_other_parent};
 
 use crate::noted::Noted;
-use git_name::{Hashing, Name};
+use git_name::{Hashing, Name, Nearby};
 use indexmap::IndexSet;
-use nearby::Nearby;
 use std::alloc::{AllocError, Global};
 
 // The commits of a history, each at the place of its name. A walk keeps its findings as flags at these places, so

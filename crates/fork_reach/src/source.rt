@@ -84,14 +84,15 @@ pub trait Source {
     /// The names of the objects that are reachable from `wanted`, but not from `excluded`, along the parents of
     /// commits. Returns `None` if the source does not know all links on the way. Reads nothing.
     fn known_history(
-        &self,
+        &mut self,
         alloc: Global,
         wanted: &[Name],
         excluded: &[Name],
     ) -> Result<Option<IndexSet<Name, Hashing>>, AllocError>
-        ensures found { IsTrue (state self.now).honest → IfOk result (λ known. IfSome known (λ found. (name : List ℕ) → contains same_name found name ≡ is_between (parent_names (state self.now).objects) (state self.now).objects wanted.now excluded.now name)) }
+        ensures found { IsTrue (state self.old).honest → IfOk result (λ known. IfSome known (λ found. (name : List ℕ) → contains same_name found name ≡ is_between (parent_names (state self.old).objects) (state self.old).objects wanted.now excluded.now name)) }
         // Over any store.
-        ensures there { IfOk result (λ known. IfSome known (λ found. (name : List ℕ) → contains same_name found name ≡ true → map.contains_key (state self.now).objects name ≡ true)) }
+        ensures there { IfOk result (λ known. IfSome known (λ found. (name : List ℕ) → contains same_name found name ≡ true → map.contains_key (state self.old).objects name ≡ true)) }
+        ensures asked { IsAsked (state self.old) (state self.new) None }
     {
         let _alloc = alloc;
         let _wanted = wanted;

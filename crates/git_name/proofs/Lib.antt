@@ -5,6 +5,7 @@ pub mod HashMaps
 pub mod MapLemmas
 pub mod Names
 pub mod OrderLemmas
+pub mod PlaceLemmas
 pub mod PlainLemmas
 pub mod ReadingLemmas
 pub mod SortedNames

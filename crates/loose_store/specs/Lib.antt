@@ -1,7 +1,9 @@
+pub mod Contents
 pub mod Failures
 pub mod Files
 pub mod Fuse
 pub mod Journal
+pub mod Listing
 pub mod MemoryFile
 pub mod Place
 pub mod Stored

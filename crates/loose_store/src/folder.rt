@@ -1,35 +1,35 @@
-ghost use Rattle.std.specs.Prelude.{◌≡◌, false};
+ghost use Rattle.std.specs.Prelude.{◌≡◌, Ok, IfOk, OnOk, IsTrue};
 ghost use Rattle.std.specs.FinMap as map;
+ghost use Rattle.loose_store.specs.Contents.{contents_in};
 ghost use Rattle.loose_store.specs.Failures.{Counts};
+ghost use Rattle.loose_store.specs.Files.{SameBut};
 
-use crate::device::{MAX_FILE, PART, found, read_at_most, regular, settle, told};
+use crate::device::{PART, told};
 use crate::failures::counted;
 use crate::files::{FileFault, LooseFiles};
 use crate::gate::Gate;
-use crate::journal_file::JOURNALS;
 use crate::listing::list_all;
-use crate::making::{create_all, create_folder, open_lock, write_file};
-use crate::place::{home_of, inside, path_of};
-use crate::swept::{empty_swept, put_all_back, sweep_at, sync_move};
+use crate::making::create_all;
+use crate::objects::{put_file, read_file, remove_other, sweep_file};
+use crate::place::home_of;
+use crate::swept::{empty_swept, put_all_back, sync_move};
 use crate::unsynced::Unsynced;
+use devices::{Device, DeviceFault, Real};
 use git_name::{Hashing, Name};
 use std::alloc::{AllocError, Global};
 use std::fs::File;
+use std::io;
 use std::io::ErrorKind;
 use std::random::RandomSource;
 use std::rt::Files;
-use std::{fs, io};
 
-/// Files in a folder of the file system, each at `objects/`, two digits, `/`, 62 digits. Whenever the process is
-/// killed, an object's file is whole or does not exist. A loss of power may lose or damage a file that was not synced
-/// (`sync`). A removed file is kept as `swept/` and 64 digits. Opening the folder again puts it back, unless the
-/// removal was made final (`forget_removed`). No contract says what a device holds, so this store does not claim to be
-/// honest: of its clauses only the count of failures says anything.
+/// Files in the folder of a device, each at `objects/`, two digits, `/`, 62 digits. Whenever the process is killed, an
+/// object's file is whole or does not exist. A loss of power may lose or damage a file that was not synced (`sync`). A
+/// removed file is kept as `swept/` and 64 digits. Opening the folder again puts it back, unless the removal was made
+/// final (`forget_removed`). It is as honest as its device.
 #[derive(Drop)]
-pub struct Folder<R> {
-    rt: R,
-    path: String,
-    lock: File,
+pub struct Folder<D> {
+    device: D,
     hashing: Hashing,
     unsynced: Unsynced,
     has_swept: bool,
@@ -37,63 +37,47 @@ pub struct Folder<R> {
     gate: Gate,
 }
 
-// Locks a folder for as long as the returned file is open. The file `lock` stays, whether or not the folder is locked.
-fn locked<R: Files<File = File>>(rt: &R, alloc: Global, folder: &str) -> io::Result<File> {
-    let path = inside(alloc, folder, "lock")?;
-    found(regular(rt, path.as_str()))?;
-    let lock = open_lock(rt, path.as_str())?;
-    lock.try_lock()?;
-    Ok(lock)
-}
-
-fn clear_part(rt: &impl Files, alloc: Global, folder: &str) -> io::Result<()> {
-    let part = inside(alloc, folder, PART)?;
-    found(fs::remove_file(rt, part.as_str()))?;
-    Ok(())
-}
-
 // Removes the parts that a killed process was writing.
-fn clear_parts(rt: &impl Files, alloc: Global, folder: &str) -> io::Result<()> {
-    clear_part(rt, alloc, folder)?;
-    let journals = inside(alloc, folder, JOURNALS)?;
-    clear_part(rt, alloc, journals.as_str())?;
+fn clear_parts<D: Device>(device: &mut D, alloc: Global) -> Result<(), DeviceFault> {
+    device.remove(PART)?;
+    device.remove("journal/part")?;
     for first in 0..=u8::MAX {
         let first = [first];
-        let home = home_of(alloc, folder, first.as_slice())?;
-        clear_part(rt, alloc, home.as_str())?;
+        let mut part = home_of(alloc, first.as_slice())?;
+        part.push_str(PART)?;
+        device.remove(part.as_str())?;
     }
     Ok(())
 }
 
-// Creates a folder and all folders in it, unless they exist, and locks it. Puts back what was swept.
-fn taken<R: Files<File = File> + AllocGlobal + Clone + Drop>(
-    rt: &R,
-    alloc: Global,
-    folder: &str,
-) -> io::Result<File> {
+// Creates a folder and all folders in it, unless they exist.
+fn create(rt: &impl Files, alloc: Global, folder: &str) -> io::Result<()> {
     if folder.is_empty() {
         return Err(io::Error::from(ErrorKind::NotFound));
     }
-    create_all(rt, alloc, folder)?;
-    let lock = locked(rt, alloc, folder)?;
-    clear_parts(rt, alloc, folder)?;
-    put_all_back(rt, alloc, folder)?;
-    Ok(lock)
+    create_all(rt, alloc, folder)
 }
 
-impl<R: Files<File = File> + AllocGlobal + RandomSource + Clone + Drop> Folder<R> {
-    /// Opens the folder at this path, and creates it and its parents if they do not exist. While it is open, another
-    /// process that opens it gets `Device`. A process that is killed unlocks it. Removes the parts that such a process
-    /// was writing, and puts back swept files unless their removal was made final.
-    pub fn open(rt: R, alloc: Global, path: &str) -> Result<Folder<R>, FileFault> {
-        let text = String::from_str(alloc, path)?;
-        let hashing = told(Hashing::drawn(&rt))?;
+// Turns a fault of the device into one of the store.
+fn of_device<T: Drop>(answer: Result<T, DeviceFault>) -> Result<T, FileFault>
+    ensures { IfOk result (λ value. answer ≡ Ok value) }
+{
+    match answer {
+        Ok(value) => Ok(value),
+        Err(DeviceFault::Memory) => Err(FileFault::Memory),
+        Err(_) => Err(FileFault::Device),
+    }
+}
+
+impl<D: Device + Drop> Folder<D> {
+    /// The folder of a device, in which no other process writes. Removes the parts that a killed process was writing, and
+    /// puts back swept files unless their removal was made final.
+    pub fn over(mut device: D, alloc: Global, hashing: Hashing) -> Result<Folder<D>, FileFault> {
         let gate = Gate::new(alloc)?;
-        let lock = told(taken(&rt, alloc, path))?;
+        of_device(clear_parts(&mut device, alloc))?;
+        of_device(put_all_back(&mut device, alloc))?;
         Ok(Folder {
-            rt,
-            path: text,
-            lock,
+            device,
             hashing,
             unsynced: Unsynced::new(alloc, hashing),
             has_swept: false,
@@ -108,94 +92,67 @@ impl<R: Files<File = File> + AllocGlobal + RandomSource + Clone + Drop> Folder<R
     }
 }
 
-fn read_at(
-    rt: &impl Files,
-    alloc: Global,
-    folder: &str,
-    name: Name,
-) -> io::Result<Option<Vec<u8>>> {
-    let path = path_of(alloc, folder, name)?;
-    found(read_at_most(rt, alloc, path.as_str(), MAX_FILE))
-}
-
-// The part is in the same folder, so one rename gives the file its name.
-fn write_in(
-    rt: &impl Files,
-    alloc: Global,
-    home: &str,
-    path: &str,
-    bytes: &[u8],
-) -> io::Result<()> {
-    let part = inside(alloc, home, PART)?;
-    let written = write_file(rt, part.as_str(), bytes);
-    settle(rt, written, part.as_str(), path)
-}
-
-// Writes a whole file. If somebody removed its folder, creates it again.
-fn write_at(
-    rt: &impl Files,
-    alloc: Global,
-    folder: &str,
-    name: Name,
-    bytes: &[u8],
-) -> io::Result<()> {
-    let home = home_of(alloc, folder, &name.as_bytes()[..1])?;
-    let path = path_of(alloc, folder, name)?;
-    if found(write_in(rt, alloc, home.as_str(), path.as_str(), bytes))?.is_some() {
-        return Ok(());
+impl<R: Files<File = File> + AllocGlobal + RandomSource + Clone + Drop> Folder<Real<R>> {
+    /// Opens the folder at this path, and creates it and its parents if they do not exist. While it is open, another
+    /// process that opens it gets `Device`. A process that is killed unlocks it.
+    pub fn open(rt: R, alloc: Global, path: &str) -> Result<Folder<Real<R>>, FileFault> {
+        let hashing = told(Hashing::drawn(&rt))?;
+        told(create(&rt, alloc, path))?;
+        let device = of_device(Real::open(rt, alloc, path))?;
+        Folder::over(device, alloc, hashing)
     }
-    create_folder(rt, home.as_str())?;
-    write_in(rt, alloc, home.as_str(), path.as_str(), bytes)
 }
 
 // Notes that a file is not synced, and writes it. If a file of its name was swept, syncs that move first.
-fn put_at(
-    rt: &impl Files,
+fn put_noted<D: Device>(
+    device: &mut D,
     alloc: Global,
-    folder: &str,
     has_swept: bool,
     unsynced: &mut Unsynced,
     name: Name,
     bytes: &[u8],
-) -> io::Result<()> {
+) -> Result<(), DeviceFault>
+    ensures ok { IsTrue (D.honest device.old) → OnOk result (contents_in (D.honest device.new) (D.past device.new) ≡ map.insert (contents_in (D.honest device.old) (D.past device.old)) name bytes.now) }
+    ensures others { IsTrue (D.honest device.old) → SameBut name (contents_in (D.honest device.old) (D.past device.old)) (contents_in (D.honest device.new) (D.past device.new)) }
+    ensures honest { D.honest device.new ≡ D.honest device.old }
+{
     unsynced.note(name)?;
     if has_swept {
-        sync_move(rt, alloc, folder, name)?;
+        sync_move(device, alloc, name)?;
     }
-    write_at(rt, alloc, folder, name, bytes)
+    put_file(device, alloc, name, bytes)
 }
 
-// Turns an answer of the file system into one of the store, and counts a fault of the device.
-fn answered<T: Drop>(failures: &mut u64, answer: io::Result<T>) -> Result<T, FileFault>
-    ensures { Counts failures.old failures.new result }
+// Turns an answer of the device into one of the store, and counts a fault of the device.
+fn answered<T: Drop>(failures: &mut u64, answer: Result<T, DeviceFault>) -> Result<T, FileFault>
+    ensures cause { Counts failures.old failures.new result }
+    ensures passed { IfOk result (λ value. answer ≡ Ok value) }
 {
     if *failures == u64::MAX {
         return Err(FileFault::Device);
     }
-    counted(failures, told(answer))
+    counted(failures, of_device(answer))
 }
 
-impl<R: Files + AllocGlobal + Clone + Drop> LooseFiles for Folder<R> {
-    ghost contents = { λ _. map.empty };
+impl<D: Device> LooseFiles for Folder<D> {
+    ghost contents = { λ folder. contents_in (D.honest folder.device) (D.past folder.device) };
 
-    ghost honest = { λ _. false };
+    ghost honest = { λ folder. D.honest folder.device };
 
     ghost failures = { λ folder. folder.failures };
 
     fn get(&mut self, alloc: Global, name: Name) -> Result<Option<Vec<u8>>, FileFault> {
-        let answer = read_at(&self.rt, alloc, self.path.as_str(), name);
+        let answer = read_file(&mut self.device, alloc, name);
         answered(&mut self.failures, answer)
     }
 
     fn put(&mut self, alloc: Global, name: Name, bytes: &[u8]) -> Result<(), FileFault> {
         if self.gate.is_shut() {
-            let error = io::Error::from(ErrorKind::StorageFull);
-            return answered(&mut self.failures, Err(error));
+            return answered(&mut self.failures, Err(DeviceFault::Device));
         }
-        let answer = put_at(
-            &self.rt,
+        let answer = put_noted(
+            &mut self.device,
             alloc,
-            self.path.as_str(),
             self.has_swept,
             &mut self.unsynced,
             name,
@@ -207,12 +164,12 @@ impl<R: Files + AllocGlobal + Clone + Drop> LooseFiles for Folder<R> {
     fn remove(&mut self, alloc: Global, name: Name) -> Result<(), FileFault> {
         self.has_swept = true;
         self.unsynced.forget(name);
-        let answer = sweep_at(&self.rt, alloc, self.path.as_str(), name);
+        let answer = sweep_file(&mut self.device, alloc, name);
         answered(&mut self.failures, answer)
     }
 
     fn names(&mut self, alloc: Global) -> Result<Vec<Name>, FileFault> {
-        let answer = list_all(&self.rt, alloc, self.path.as_str());
+        let answer = list_all(&mut self.device, alloc);
         answered(&mut self.failures, answer)
     }
 
@@ -221,7 +178,7 @@ impl<R: Files + AllocGlobal + Clone + Drop> LooseFiles for Folder<R> {
     }
 
     fn sync(&mut self, alloc: Global) -> Result<(), FileFault> {
-        match self.unsynced.sync(&self.rt, alloc, self.path.as_str()) {
+        match self.unsynced.sync(&mut self.device, alloc) {
             Ok(()) => Ok(()),
             Err(_) if self.unsynced.has_failed() => Err(FileFault::Device),
             Err(_) => Err(FileFault::Memory),
@@ -229,10 +186,7 @@ impl<R: Files + AllocGlobal + Clone + Drop> LooseFiles for Folder<R> {
     }
 
     fn sync_ahead(&mut self, alloc: Global) -> Result<(), FileFault> {
-        told(
-            self.unsynced
-                .sync_ahead(&self.rt, alloc, self.path.as_str()),
-        )
+        of_device(self.unsynced.sync_ahead(&mut self.device, alloc))
     }
 
     fn has_removed(&self) -> bool {
@@ -240,7 +194,7 @@ impl<R: Files + AllocGlobal + Clone + Drop> LooseFiles for Folder<R> {
     }
 
     fn forget_removed(&mut self, alloc: Global) -> Result<(), FileFault> {
-        told(empty_swept(&self.rt, alloc, self.path.as_str()))?;
+        of_device(empty_swept(&mut self.device, alloc))?;
         self.has_swept = false;
         Ok(())
     }

@@ -3,12 +3,12 @@ ghost use Rattle.hex.specs.Hex.{encode_lower};
 ghost use Rattle.sha2.specs.Sha256.{sha256};
 ghost use Rattle.loose_store.specs.Journal.{journal_called};
 
-use crate::device::{PART, found, readable, regular, settle, told};
+use crate::device::{PART, settle, told};
 use crate::files::FileFault;
 use crate::journal_line::{line_of, name_called, read_line};
-use crate::making::{create_file, create_folder, sync_folder};
 use crate::place::inside;
 use crate::reserve::Reserve;
+use devices::{create_file, create_folder, found, readable, regular, sync_folder};
 use git_name::Name;
 use sha2::{Digest, Sha256};
 use std::alloc::{AllocError, Global};

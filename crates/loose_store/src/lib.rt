@@ -17,6 +17,7 @@ mod listing;
 mod making;
 mod memory;
 mod memory_file;
+mod objects;
 mod other_journals;
 mod place;
 mod reserve;

@@ -1,44 +1,77 @@
-use crate::device::{found, readable};
-use crate::place::{home_of, name_at};
-use git_name::Name;
-use std::alloc::Global;
-use std::rt::Files;
-use std::{fs, io};
+ghost use Rattle.std.specs.Prelude.{◌≡◌, ◌++◌, IsTrue, IfOk, OnOk, map as each};
+ghost use Rattle.std.specs.FinMap as map;
+ghost use Rattle.devices.specs.Device.{files_of};
+ghost use Rattle.loose_store.specs.Contents.{contents_in};
+ghost use Rattle.loose_store.specs.Listing.{names_at, names_below, names_called, one_or_none};
 
-// Adds the names that begin with this byte.
-fn list_home<R: Files + AllocGlobal + Clone + Drop>(
-    rt: &R,
-    alloc: Global,
-    folder: &str,
-    first: u8,
-    names: &mut Vec<Name>,
-) -> io::Result<()> {
-    let first = [first];
-    let home = home_of(alloc, folder, first.as_slice())?;
-    let front = hex::encode(alloc, first.as_slice())?;
-    let Some(listing) = found(fs::read_dir(rt, home.as_str()))? else {
+use crate::objects::list_folder;
+use crate::place::{home_of, name_at};
+use devices::{Device, DeviceFault};
+use git_name::Name;
+use std::alloc::{AllocError, Global};
+
+// Adds a name, if there is one.
+fn add_name(names: &mut Vec<Name>, name: Option<Name>) -> Result<(), AllocError>
+    ensures { OnOk result (names.new.items ≡ names.old.items ++ one_or_none name) }
+{
+    let Some(name) = name else {
         return Ok(());
     };
-    for entry in listing {
-        if let Some(entry) = readable(entry)? {
-            if let Some(name) = name_at(front.as_bytes(), entry.file_name().as_bytes()) {
-                names.push(name)?;
-            }
-        }
+    names.push(name)?;
+    Ok(())
+}
+
+// Adds the names whose files are called so in the folder of these two digits.
+fn add_names(front: &[u8], listing: &[Vec<u8>], names: &mut Vec<Name>) -> Result<(), AllocError>
+    ensures { OnOk result (names.new.items ≡ names.old.items ++ names_called front.now (each (λ called. called.items) listing.now)) }
+{
+    for called in listing.iter() {
+        add_name(names, name_at(front, called.as_slice()))?;
     }
     Ok(())
 }
 
-/// The names of all files of a folder, ascending. Files with other names are ignored.
-pub(crate) fn list_all<R: Files + AllocGlobal + Clone + Drop>(
-    rt: &R,
+// Adds the names that begin with this byte.
+fn list_home<D: Device>(
+    device: &mut D,
     alloc: Global,
-    folder: &str,
-) -> io::Result<Vec<Name>> {
+    first: u8,
+    names: &mut Vec<Name>,
+) -> Result<(), DeviceFault>
+    ensures found { IsTrue (D.honest device.old) → OnOk result (names.new.items ≡ names.old.items ++ names_at first (map.keys (files_of (D.past device.old)))) }
+    ensures past { IsTrue (D.honest device.old) → D.past device.new ≡ D.past device.old }
+    ensures kept { contents_in (D.honest device.new) (D.past device.new) ≡ contents_in (D.honest device.old) (D.past device.old) }
+    ensures honest { D.honest device.new ≡ D.honest device.old }
+{
+    let first = [first];
+    let home = home_of(alloc, first.as_slice())?;
+    let front = hex::encode(alloc, first.as_slice())?;
+    let listing = list_folder(device, alloc, home.as_str())?;
+    Ok(add_names(front.as_bytes(), listing.as_slice(), names)?)
+}
+
+// The names of all files of objects, home by home.
+fn list_homes<D: Device>(device: &mut D, alloc: Global) -> Result<Vec<Name>, DeviceFault>
+    ensures found { IsTrue (D.honest device.old) → IfOk result (λ names. names.items ≡ names_below 256 (map.keys (files_of (D.past device.old)))) }
+    ensures kept { contents_in (D.honest device.new) (D.past device.new) ≡ contents_in (D.honest device.old) (D.past device.old) }
+    ensures honest { D.honest device.new ≡ D.honest device.old }
+{
     let mut names = Vec::new(alloc);
-    for first in 0..=u8::MAX {
-        list_home(rt, alloc, folder, first, &mut names)?;
+    for first in 0..256u64 {
+        list_home(device, alloc, first as u8, &mut names)?;
     }
+    Ok(names)
+}
+
+/// The names of all files of objects, ascending. Files with other names are ignored.
+pub(crate) fn list_all<D: Device>(device: &mut D, alloc: Global) -> Result<Vec<Name>, DeviceFault>
+    ensures found { IsTrue (D.honest device.old) → IfOk result (λ names. names.items ≡ map.keys (contents_in (D.honest device.old) (D.past device.old))) }
+    ensures kept { contents_in (D.honest device.new) (D.past device.new) ≡ contents_in (D.honest device.old) (D.past device.old) }
+    ensures honest { D.honest device.new ≡ D.honest device.old }
+{
+    let mut names = list_homes(device, alloc)?;
     names.sort_unstable();
+    // A device that lies may list a name twice.
+    names.dedup();
     Ok(names)
 }

@@ -7,9 +7,8 @@ ghost use Rattle.git_name.specs.Same.{Sets, same_name};
 
 use crate::files::{FileFault, LooseFiles};
 use crate::memory_file::MemoryFile;
-use git_name::{Hashing, Kind, Name, Sealed};
+use git_name::{Hashing, Kind, Name, Nearby, Sealed};
 use indexmap::IndexMap;
-use nearby::Nearby;
 use std::alloc::{AllocError, Global};
 use std::marker::Model;
 
@@ -141,10 +140,11 @@ impl LooseFiles for Memory {
         Ok(self.set(alloc, name, bytes)?)
     }
 
-    fn put_object(&mut self, _alloc: Global, sealed: Sealed) -> Result<(), FileFault> {
+    fn put_object(&mut self, _alloc: Global, sealed: Sealed) -> Result<Option<Sealed>, FileFault> {
         let name = sealed.name();
         let (kind, content) = sealed.into_parts();
-        Ok(self.keep(name, MemoryFile::Object(kind, content))?)
+        self.keep(name, MemoryFile::Object(kind, content))?;
+        Ok(None)
     }
 
     fn remove(&mut self, _alloc: Global, name: Name) -> Result<(), FileFault> {

@@ -1,8 +1,9 @@
-use crate::device::{found, readable, told};
+use crate::device::told;
 use crate::files::FileFault;
 use crate::journal_file::{JOURNALS, open_in, open_old_in};
 use crate::journal_line::{LINE, name_called};
 use crate::place::inside;
+use devices::{found, readable};
 use git_name::Name;
 use std::alloc::Global;
 use std::rt::Files;

@@ -1,8 +1,8 @@
-use crate::device::{found, regular, settle, told};
+use crate::device::{settle, told};
 use crate::files::FileFault;
 use crate::gate::Gate;
-use crate::making::create_file;
 use crate::place::inside;
+use devices::{create_file, found, regular};
 use std::alloc::{AllocError, Global};
 use std::cell::Cell;
 use std::fs::{File, OpenFile, OpenOptions};

@@ -1,8 +1,8 @@
-use crate::device::{PART, found, read_whole, settle, told};
+use crate::device::{PART, read_whole, settle, told};
 use crate::files::FileFault;
-use crate::making::{create_file, sync_folder};
 use crate::place::inside;
 use crate::reserve::Reserve;
+use devices::{create_file, found, sync_folder};
 use std::alloc::Global;
 use std::fs::OpenFile;
 use std::io;

@@ -1,12 +1,12 @@
-use crate::device::found;
-use crate::place::{OBJECTS, home_of, inside, path_of};
+ghost use Rattle.std.specs.Prelude.{◌≡◌};
+ghost use Rattle.loose_store.specs.Contents.{contents_in};
+
+use crate::objects::{sync_bytes, sync_names};
+use crate::place::{OBJECTS, home_of, path_of};
+use devices::{Device, DeviceFault};
 use git_name::{Hashing, Name};
 use indexmap::IndexSet;
 use std::alloc::{AllocError, Global};
-use std::fs::OpenFile;
-use std::io::ErrorKind;
-use std::rt::Files;
-use std::{fs, io};
 
 // From this many names on, half of the files are synced ahead.
 const MANY: usize = 1024;
@@ -22,30 +22,26 @@ pub(crate) struct Unsynced {
     has_failed: bool,
 }
 
-// Opens an object's file, unless it was removed. Only a regular file can be an object's.
-fn open_object<R: Files>(
-    rt: &R,
-    alloc: Global,
-    folder: &str,
-    name: Name,
-) -> io::Result<Option<R::File>> {
-    let path = path_of(alloc, folder, name)?;
-    match found(fs::metadata(rt, path.as_str()))? {
-        Some(known) if known.is_file() => found(fs::open(rt, path.as_str())),
-        _ => Ok(None),
-    }
+// Syncs the bytes of the file of a name. If it was removed, there is nothing to sync.
+fn sync_object<D: Device>(device: &mut D, alloc: Global, name: Name) -> Result<(), DeviceFault>
+    ensures kept { contents_in (D.honest device.new) (D.past device.new) ≡ contents_in (D.honest device.old) (D.past device.old) }
+    ensures honest { D.honest device.new ≡ D.honest device.old }
+{
+    let path = path_of(alloc, name)?;
+    sync_bytes(device, path.as_str())
 }
 
-// Opens the folder of names that begin with this byte, unless somebody removed it.
-fn open_home<R: Files>(
-    rt: &R,
-    alloc: Global,
-    folder: &str,
-    first: u8,
-) -> io::Result<Option<R::File>> {
+// Syncs the names in the folder of names that begin with this byte, if it exists.
+fn sync_home_of<D: Device>(device: &mut D, alloc: Global, first: u8) -> Result<(), DeviceFault>
+    ensures kept { contents_in (D.honest device.new) (D.past device.new) ≡ contents_in (D.honest device.old) (D.past device.old) }
+    ensures honest { D.honest device.new ≡ D.honest device.old }
+{
     let first = [first];
-    let home = home_of(alloc, folder, first.as_slice())?;
-    found(fs::open(rt, home.as_str()))
+    let home = home_of(alloc, first.as_slice())?;
+    match sync_names(device, home.as_str()) {
+        Err(DeviceFault::Missing) => Ok(()),
+        synced => synced,
+    }
 }
 
 impl Unsynced {
@@ -75,103 +71,118 @@ impl Unsynced {
     }
 
     // Passes on the result of a sync. After a failure no more syncs are tried.
-    fn was_synced(&mut self, synced: io::Result<()>) -> io::Result<()> {
-        if synced.is_err() {
+    fn was_synced(&mut self, synced: Result<(), DeviceFault>) -> Result<(), DeviceFault> {
+        if let Err(DeviceFault::Device) = &synced {
             self.has_failed = true;
         }
         synced
     }
 
     // Syncs the bytes of the file of a name that was taken out. If the file cannot be opened, puts the name back.
-    fn sync_bytes(
+    fn sync_file<D: Device>(
         &mut self,
-        rt: &impl Files,
+        device: &mut D,
         alloc: Global,
-        folder: &str,
         name: Name,
-    ) -> io::Result<()> {
-        match open_object(rt, alloc, folder, name) {
-            Ok(Some(file)) => self.was_synced(file.sync_data())?,
-            Ok(None) => {}
-            Err(error) => {
+    ) -> Result<(), DeviceFault>
+        ensures kept { contents_in (D.honest device.new) (D.past device.new) ≡ contents_in (D.honest device.old) (D.past device.old) }
+        ensures honest { D.honest device.new ≡ D.honest device.old }
+    {
+        let synced = sync_object(device, alloc, name);
+        if let Err(fault) = self.was_synced(synced) {
+            if fault != DeviceFault::Device {
                 self.note(name)?;
-                return Err(error);
             }
+            return Err(fault);
         }
         self.homes[name.as_bytes()[0] as usize] = true;
         Ok(())
     }
 
     // Syncs the names in a folder of synced files.
-    fn sync_home(
+    fn sync_home<D: Device>(
         &mut self,
-        rt: &impl Files,
+        device: &mut D,
         alloc: Global,
-        folder: &str,
         first: u8,
-    ) -> io::Result<()> {
-        if let Some(home) = open_home(rt, alloc, folder, first)? {
-            self.was_synced(home.sync_all())?;
-        }
+    ) -> Result<(), DeviceFault>
+        ensures kept { contents_in (D.honest device.new) (D.past device.new) ≡ contents_in (D.honest device.old) (D.past device.old) }
+        ensures honest { D.honest device.new ≡ D.honest device.old }
+    {
+        let synced = sync_home_of(device, alloc, first);
+        self.was_synced(synced)?;
         self.homes[first as usize] = false;
         Ok(())
     }
 
     // Syncs the names in each folder of synced files, and the names of these folders.
-    fn sync_homes(&mut self, rt: &impl Files, alloc: Global, folder: &str) -> io::Result<()> {
+    fn sync_homes<D: Device>(&mut self, device: &mut D, alloc: Global) -> Result<(), DeviceFault>
+        ensures kept { contents_in (D.honest device.new) (D.past device.new) ≡ contents_in (D.honest device.old) (D.past device.old) }
+        ensures honest { D.honest device.new ≡ D.honest device.old }
+    {
         let mut is_any = false;
         for first in 0..=u8::MAX {
             if self.homes[first as usize] {
                 is_any = true;
-                self.sync_home(rt, alloc, folder, first)?;
+                self.sync_home(device, alloc, first)?;
             }
         }
         if !is_any {
             return Ok(());
         }
-        let objects = inside(alloc, folder, OBJECTS)?;
-        let objects = fs::open(rt, objects.as_str())?;
-        self.was_synced(objects.sync_all())
+        let synced = sync_names(device, OBJECTS);
+        self.was_synced(synced)
     }
 
     // Syncs at most `most` of the files, and forgets their names.
-    fn sync_some(
+    fn sync_some<D: Device>(
         &mut self,
-        rt: &impl Files,
+        device: &mut D,
         alloc: Global,
-        folder: &str,
         most: usize,
-    ) -> io::Result<()> {
+    ) -> Result<(), DeviceFault>
+        ensures kept { contents_in (D.honest device.new) (D.past device.new) ≡ contents_in (D.honest device.old) (D.past device.old) }
+        ensures honest { D.honest device.new ≡ D.honest device.old }
+    {
         if self.has_failed {
-            return Err(io::Error::from(ErrorKind::Other));
+            return Err(DeviceFault::Device);
         }
         for _ in 0..most {
             let Some(name) = self.names.pop() else {
-                return self.sync_homes(rt, alloc, folder);
+                return self.sync_homes(device, alloc);
             };
-            self.sync_bytes(rt, alloc, folder, name)?;
+            self.sync_file(device, alloc, name)?;
         }
-        self.sync_homes(rt, alloc, folder)
+        self.sync_homes(device, alloc)
     }
 
     /// Syncs all of the files, and forgets their names. If something cannot be opened, it may be called again. After a
     /// failed sync it always fails.
-    pub(crate) fn sync(&mut self, rt: &impl Files, alloc: Global, folder: &str) -> io::Result<()> {
-        self.sync_some(rt, alloc, folder, usize::MAX)
+    pub(crate) fn sync<D: Device>(
+        &mut self,
+        device: &mut D,
+        alloc: Global,
+    ) -> Result<(), DeviceFault>
+        ensures kept { contents_in (D.honest device.new) (D.past device.new) ≡ contents_in (D.honest device.old) (D.past device.old) }
+        ensures honest { D.honest device.new ≡ D.honest device.old }
+    {
+        self.sync_some(device, alloc, usize::MAX)
     }
 
     /// Syncs half of the files, if there are many. What cannot be opened is left for later.
-    pub(crate) fn sync_ahead(
+    pub(crate) fn sync_ahead<D: Device>(
         &mut self,
-        rt: &impl Files,
+        device: &mut D,
         alloc: Global,
-        folder: &str,
-    ) -> io::Result<()> {
+    ) -> Result<(), DeviceFault>
+        ensures kept { contents_in (D.honest device.new) (D.past device.new) ≡ contents_in (D.honest device.old) (D.past device.old) }
+        ensures honest { D.honest device.new ≡ D.honest device.old }
+    {
         let count = self.names.len();
         if count < MANY {
             return Ok(());
         }
-        let synced = self.sync_some(rt, alloc, folder, count / 2);
+        let synced = self.sync_some(device, alloc, count / 2);
         if self.has_failed { synced } else { Ok(()) }
     }
 }

@@ -5,16 +5,15 @@ use Rattle.number_links.specs.Bases.{IsBest, IsCommon}
 use Rattle.number_links.specs.Descent.{GoesOn, IsKey, IsParent, Puts, is_common_at, key_of}
 use Rattle.number_links.specs.Facts.{Facts, goes_on}
 use Rattle.number_links.specs.Generations.{AreGenerations, generation}
-use Rattle.number_links.specs.Reach.{Root}
 use Rattle.number_links.specs.declared.along.Along.TheVariants.{Parents}
 use Rattle.number_links.proofs.DescentLemmas.{AreOutdone, IsSide, Waits, between, here_waits, left_outdone, outdone_on, waits_on}
-use Rattle.number_links.proofs.KeyLemmas.{Reaches, lower, one_number, reached_at, reached_high, reached_under, side}
+use Rattle.number_links.proofs.KeyLemmas.{AreHigh, IsRoot, Reaches, lower, one_high, one_number, reached_at, reached_high, reached_key, reached_under, side, waits_first}
 use Rattle.number_links.proofs.PastLemmas.{reached_allowed}
-use Rattle.number_links.proofs.SeeingLemmas.{sole, sole_there}
+use Rattle.number_links.proofs.SeeingLemmas.{sole_there}
 
 -- who is reached from both, by key
 abbrev pub Common : (ℕ → List ℕ) → (ℕ → Bool) → List ℕ → ℕ → ℕ → ℕ → Type 0
-Common next allowed gs a b key = Reaches next allowed gs a key × Reaches next allowed gs b key
+Common next allowed gs a b key = Reaches next allowed gs (a ∷ []) key × Reaches next allowed gs (b ∷ []) key
 
 -- and is no parent of another one
 abbrev pub HasNoChild : (ℕ → List ℕ) → (ℕ → Bool) → List ℕ → ℕ → ℕ → ℕ → Type 0
@@ -22,8 +21,8 @@ HasNoChild next allowed gs a b key = (up : ℕ) → Common next allowed gs a b u
 
 -- all keys from one on are done
 pub record IsDescent (next : ℕ → List ℕ) (allowed : ℕ → Bool) (gs : List ℕ) (a b below : ℕ) (from_a from_b outdone best : ℕ → Bool) : Type 0 where
-  pub of_a : Waits (IsParent next allowed gs) (key_of gs a) (Reaches next allowed gs a) below from_a outdone
-  pub of_b : Waits (IsParent next allowed gs) (key_of gs b) (Reaches next allowed gs b) below from_b outdone
+  pub of_a : Waits (IsParent next allowed gs) (IsRoot allowed gs (a ∷ [])) (Reaches next allowed gs (a ∷ [])) below from_a outdone
+  pub of_b : Waits (IsParent next allowed gs) (IsRoot allowed gs (b ∷ [])) (Reaches next allowed gs (b ∷ [])) below from_b outdone
   pub gone : AreOutdone (IsParent next allowed gs) (Common next allowed gs a b) below outdone
   pub found : (n : ℕ) → best n ≡ true → IsBest next allowed a b n
   pub all : (n : ℕ) → below ≤ key_of gs n → IsBest next allowed a b n → best n ≡ true
@@ -43,7 +42,7 @@ latest_under below last at from_a from_b outdone within_a within_b within among 
 pub no_later : (last at : ℕ) (waits : ℕ → Bool) → last ≤ at → ((key : ℕ) → waits key ≡ true → key ≤ last) → (key : ℕ) → waits key ≡ true → key ≤ at
 no_later last at waits least most key there = (let bound = most key there in omega arith)
 
-both_not : (b : Bool) → b ≡ true → b ≡ false → ⊥
+pub both_not : (b : Bool) → b ≡ true → b ≡ false → ⊥
 both_not true is not_is = cc
 both_not false is not_is = cc
 
@@ -72,11 +71,17 @@ module _ (facts : Facts) (allowed : ℕ → Bool) (gs : List ℕ) (few : length 
   abbrev parent : ℕ → ℕ → Type 0
   parent = IsParent next allowed gs
 
-  side_a : IsSide parent (key_of gs a) (Reaches next allowed gs a)
-  side_a = side facts allowed gs few are a high_a
+  all_a : AreHigh allowed gs (a ∷ [])
+  all_a = one_high allowed gs a high_a
 
-  side_b : IsSide parent (key_of gs b) (Reaches next allowed gs b)
-  side_b = side facts allowed gs few are b high_b
+  all_b : AreHigh allowed gs (b ∷ [])
+  all_b = one_high allowed gs b high_b
+
+  side_a : IsSide parent (IsRoot allowed gs (a ∷ [])) (Reaches next allowed gs (a ∷ []))
+  side_a = side facts allowed gs few are (a ∷ []) all_a
+
+  side_b : IsSide parent (IsRoot allowed gs (b ∷ [])) (Reaches next allowed gs (b ∷ []))
+  side_b = side facts allowed gs few are (b ∷ []) all_b
 
   down : (up key : ℕ) → Common next allowed gs a b up → parent up key → Common next allowed gs a b key
   down up key here link = (side_a.below up key here.0 link, side_b.below up key here.1 link)
@@ -86,13 +91,13 @@ module _ (facts : Facts) (allowed : ℕ → Bool) (gs : List ℕ) (few : length 
   common_key n is = ((n, is.0, refl), (n, is.1, refl))
 
   key_common : (n : ℕ) → 1 < generation gs n → Common next allowed gs a b (key_of gs n) → IsCommon next allowed a b n
-  key_common n high is = (reached_at facts allowed gs few are a high_a n high is.0, reached_at facts allowed gs few are b high_b n high is.1)
+  key_common n high is = (reached_at facts allowed gs few are (a ∷ []) all_a n high is.0, reached_at facts allowed gs few are (b ∷ []) all_b n high is.1)
 
   best_key : (n : ℕ) → IsBest next allowed a b n → HasNoChild next allowed gs a b (key_of gs n)
   best_key n is up here link =
       let child = link.child in
       let common = key_common child.number child.high (subst (Common next allowed gs a b) child.of here) in
-      let high = reached_high facts allowed gs few are a high_a n is.common.0 in
+      let high = reached_high facts allowed gs few are (a ∷ []) all_a n is.common.0 in
       let parent_high = are.above child.number link.parent child.high link.linked in
       let same = one_number gs few n link.parent high parent_high link.of in
       let linked = subst (Contains (next child.number)) (sym same) link.linked in
@@ -106,7 +111,7 @@ module _ (facts : Facts) (allowed : ℕ → Bool) (gs : List ℕ) (few : length 
       child = record {
         number = other;
         of = refl;
-        high = reached_high facts allowed gs few are a high_a other common.0;
+        high = reached_high facts allowed gs few are (a ∷ []) all_a other common.0;
       };
       parent = n;
       of = refl;
@@ -117,47 +122,31 @@ module _ (facts : Facts) (allowed : ℕ → Bool) (gs : List ℕ) (few : length 
 
   -- ---- the start: one key waits of each side, and all are below the bound
   module _ (bound : ℕ) where
-    waits_first : (root : ℕ) → 1 < generation gs root → key_of gs root < bound → (waits outdone : ℕ → Bool) → Puts (root ∷ []) allowed gs (λ _. false) waits → Waits parent (key_of gs root) (Reaches next allowed gs root) bound waits outdone
-    waits_first root high under waits outdone puts = record {
-      sound = λ key there. elim (puts.only key there) [
-        | inl before ↦ absurd (cc)
-        | inr (n, among, seen, of) ↦
-            let of_root : key ≡ key_of gs root = of ∙ ap (key_of gs) (sym (sole_there root n among)) in
-            (subst (λ k. k < bound) (sym of_root) under, (n, Root n among seen, of))
-      ];
-      root = λ _ here. puts.adds root (sole root) (reached_allowed next allowed (root ∷ []) root (reached_at facts allowed gs few are root high root high here));
-      step = λ at key here link _. (let within = reached_under facts allowed gs few are root high here.0 here.1 in inr (inr (omega (arith, here.2))));
-    }
+    one_under : (root : ℕ) → key_of gs root < bound → (key : ℕ) → IsRoot allowed gs (root ∷ []) key → key < bound
+    one_under root under key first = subst (λ k. k < bound) (sym (first.3 ∙ ap (key_of gs) (sym (sole_there root first.0 first.1)))) under
 
     pub descent_begins : (from_a from_b outdone best : ℕ → Bool) → key_of gs a < bound → key_of gs b < bound → Puts (a ∷ []) allowed gs (λ _. false) from_a → Puts (b ∷ []) allowed gs (λ _. false) from_b → ((key : ℕ) → outdone key ≡ false)
         → ((n : ℕ) → best n ≡ false) → IsDescent next allowed gs a b bound from_a from_b outdone best
     descent_begins from_a from_b outdone best under_a under_b puts_a puts_b none_outdone none_best = record {
-      of_a = waits_first a high_a under_a from_a outdone puts_a;
-      of_b = waits_first b high_b under_b from_b outdone puts_b;
+      of_a = waits_first facts allowed gs few are (a ∷ []) all_a bound (one_under a under_a) from_a outdone puts_a;
+      of_b = waits_first facts allowed gs few are (b ∷ []) all_b bound (one_under b under_b) from_b outdone puts_b;
       gone = record {
         sound = λ key there. absurd (both_not (outdone key) there (none_outdone key));
-        step = λ at key here link under. (let within = reached_under facts allowed gs few are a high_a here.0.0 here.0.1 in inr (omega (arith, here.0.2)));
+        step = λ at key here link under. (let within = reached_under facts allowed gs few are (a ∷ []) all_a bound (one_under a under_a) here.0.0 here.0.1 in inr (omega (arith, here.0.2)));
       };
       found = λ n there. absurd (both_not (best n) there (none_best n));
-      all = λ n over is. (let within = reached_under facts allowed gs few are a high_a n is.common.0 in absurd (omega arith));
+      all = λ n over is. (let within = reached_under facts allowed gs few are (a ∷ []) all_a bound (one_under a under_a) n is.common.0 in absurd (omega arith));
     }
 
   -- ---- a step: one goes on from the greatest key that waits
   module _ (below at : ℕ) (from_a from_b outdone best : ℕ → Bool) (state : IsDescent next allowed gs a b below from_a from_b outdone best) where
     -- each key that waits is that of a number with a generation
-    side_key : (root : ℕ) → 1 < generation gs root → (key : ℕ) → Reaches next allowed gs root key → IsKey gs key
-    side_key root high key here = record {
-      number = here.0;
-      of = here.2;
-      high = reached_high facts allowed gs few are root high here.0 here.1;
-    }
-
     pub latest_key : (last : ℕ) → (from_a last ≡ true) ⊎ (from_b last ≡ true) → (at ≡ last) ⊎ (outdone at ≡ true) → IsKey gs at
     latest_key last among latest = elim latest [
-      | inr gone ↦ (let child = (state.gone.sound at gone).1 in side_key a high_a at (down child.0 at child.1 child.2).0)
+      | inr gone ↦ (let child = (state.gone.sound at gone).1 in reached_key facts allowed gs few are (a ∷ []) all_a at (down child.0 at child.1 child.2).0)
       | inl same ↦ subst (IsKey gs) (sym same) (elim among [
-        | inl there ↦ side_key a high_a last (state.of_a.sound last there).1
-        | inr there ↦ side_key b high_b last (state.of_b.sound last there).1
+        | inl there ↦ reached_key facts allowed gs few are (a ∷ []) all_a last (state.of_a.sound last there).1
+        | inr there ↦ reached_key facts allowed gs few are (b ∷ []) all_b last (state.of_b.sound last there).1
       ])
     ]
 
@@ -184,14 +173,14 @@ module _ (facts : Facts) (allowed : ℕ → Bool) (gs : List ℕ) (few : length 
       lower_key : (up key : ℕ) → parent up key → key < up
       lower_key = lower facts allowed gs few are
 
-      none_between : (key : ℕ) → at < key → key < below → Reaches next allowed gs a key → ⊥
-      none_between key over before here = between parent lower_key (key_of gs a) (Reaches next allowed gs a) below at from_a outdone side_a state.of_a most_a most below key (omega arith) over before here
+      none_between : (key : ℕ) → at < key → key < below → Reaches next allowed gs (a ∷ []) key → ⊥
+      none_between key over before here = between parent lower_key (IsRoot allowed gs (a ∷ [])) (Reaches next allowed gs (a ∷ [])) below at from_a outdone side_a state.of_a most_a most below key (omega arith) over before here
 
-      waits_a : Reaches next allowed gs a at → (from_a at ≡ true) ⊎ (outdone at ≡ true)
-      waits_a here = here_waits parent lower_key (key_of gs a) (Reaches next allowed gs a) below at from_a outdone side_a state.of_a most_a most under here
+      waits_a : Reaches next allowed gs (a ∷ []) at → (from_a at ≡ true) ⊎ (outdone at ≡ true)
+      waits_a here = here_waits parent lower_key (IsRoot allowed gs (a ∷ [])) (Reaches next allowed gs (a ∷ [])) below at from_a outdone side_a state.of_a most_a most under here
 
-      waits_b : Reaches next allowed gs b at → (from_b at ≡ true) ⊎ (outdone at ≡ true)
-      waits_b here = here_waits parent lower_key (key_of gs b) (Reaches next allowed gs b) below at from_b outdone side_b state.of_b most_b most under here
+      waits_b : Reaches next allowed gs (b ∷ []) at → (from_b at ≡ true) ⊎ (outdone at ≡ true)
+      waits_b here = here_waits parent lower_key (IsRoot allowed gs (b ∷ [])) (Reaches next allowed gs (b ∷ [])) below at from_b outdone side_b state.of_b most_b most under here
 
       common_waits : Common next allowed gs a b at → common_here ≡ true
       common_waits here = elim (waits_a here.0) [
@@ -240,8 +229,8 @@ module _ (facts : Facts) (allowed : ℕ → Bool) (gs : List ℕ) (few : length 
           → ((n : ℕ) → now_best n ≡ true → ((best_here ≡ true) × (n ≡ is.number)) ⊎ (best n ≡ true)) → ((n : ℕ) → best n ≡ true → now_best n ≡ true) → (best_here ≡ true → now_best is.number ≡ true)
           → IsDescent next allowed gs a b at now_a now_b now_outdone now_best
       descends now_a now_b now_outdone now_best is goes_on only keeps notes = record {
-        of_a = waits_on parent lower_key (key_of gs a) (Reaches next allowed gs a) below at (not common_here && from_a at) common_here from_a outdone now_a now_outdone side_a state.of_a most_a most under goes_on.of_a goes_on.outdone (gives_its (from_a at)) (given_or_common (from_a at)) outdone_common;
-        of_b = waits_on parent lower_key (key_of gs b) (Reaches next allowed gs b) below at (not common_here && from_b at) common_here from_b outdone now_b now_outdone side_b state.of_b most_b most under goes_on.of_b goes_on.outdone (gives_its (from_b at)) (given_or_common (from_b at)) outdone_common;
+        of_a = waits_on parent lower_key (IsRoot allowed gs (a ∷ [])) (Reaches next allowed gs (a ∷ [])) below at (not common_here && from_a at) common_here from_a outdone now_a now_outdone side_a state.of_a most_a most under goes_on.of_a goes_on.outdone (gives_its (from_a at)) (given_or_common (from_a at)) outdone_common;
+        of_b = waits_on parent lower_key (IsRoot allowed gs (b ∷ [])) (Reaches next allowed gs (b ∷ [])) below at (not common_here && from_b at) common_here from_b outdone now_b now_outdone side_b state.of_b most_b most under goes_on.of_b goes_on.outdone (gives_its (from_b at)) (given_or_common (from_b at)) outdone_common;
         gone = outdone_on parent lower_key (Common next allowed gs a b) down below at common_here outdone now_outdone state.gone most under (λ key over before here. none_between key over before here.0) goes_on.outdone is_common common_waits;
         found = λ n there. elim (only n there) [
           | inl (is_best, same) ↦ subst (IsBest next allowed a b) (sym same) (best_number is_best)
@@ -249,7 +238,7 @@ module _ (facts : Facts) (allowed : ℕ → Bool) (gs : List ℕ) (few : length 
         ];
         all = λ n over best_n. elim (cases_order at (key_of gs n)) [
           | inl same ↦
-              let high = reached_high facts allowed gs few are a high_a n best_n.common.0 in
+              let high = reached_high facts allowed gs few are (a ∷ []) all_a n best_n.common.0 in
               let it = one_number gs few is.number n is.high high (sym is.of ∙ same) in
               subst (λ m. now_best m ≡ true) it (notes (here_found (subst (Common next allowed gs a b) (sym same) (common_key n best_n.common)) (subst (HasNoChild next allowed gs a b) (sym same) (best_key n best_n))))
           | inr (inl later) ↦ elim (cases_lt (key_of gs n) below) [
@@ -277,6 +266,6 @@ module _ (facts : Facts) (allowed : ℕ → Bool) (gs : List ℕ) (few : length 
     where
       child : IsBest next allowed a b n → key_of gs n < below → (up : ℕ) × Common next allowed gs a b up × parent up (key_of gs n)
       child is before = elim none [
-        | inl none_a ↦ (left_outdone parent (lower facts allowed gs few are) (Common next allowed gs a b) down (key_of gs a) (Reaches next allowed gs a) below from_a outdone side_a state.of_a state.gone (λ key there. both_not (from_a key) there (none_a key)) below (key_of gs n) (omega arith) before (n, is.common.0, refl)).1
-        | inr none_b ↦ (left_outdone parent (lower facts allowed gs few are) (Common next allowed gs a b) down (key_of gs b) (Reaches next allowed gs b) below from_b outdone side_b state.of_b state.gone (λ key there. both_not (from_b key) there (none_b key)) below (key_of gs n) (omega arith) before (n, is.common.1, refl)).1
+        | inl none_a ↦ (left_outdone parent (lower facts allowed gs few are) (Common next allowed gs a b) down (IsRoot allowed gs (a ∷ [])) (Reaches next allowed gs (a ∷ [])) below from_a outdone side_a state.of_a state.gone (λ key there. both_not (from_a key) there (none_a key)) (key_of gs n) before (n, is.common.0, refl)).1
+        | inr none_b ↦ (left_outdone parent (lower facts allowed gs few are) (Common next allowed gs a b) down (IsRoot allowed gs (b ∷ [])) (Reaches next allowed gs (b ∷ [])) below from_b outdone side_b state.of_b state.gone (λ key there. both_not (from_b key) there (none_b key)) (key_of gs n) before (n, is.common.1, refl)).1
       ]

@@ -15,7 +15,7 @@ use Rattle.number_links.specs.Facts.{Facts, goes_on}
 use Rattle.number_links.specs.Generations.{AreGenerations, generation}
 use Rattle.number_links.specs.Reach.{IsReached, Root, Next}
 use Rattle.number_links.specs.declared.along.Along.TheVariants.{Parents}
-use Rattle.number_links.proofs.DescentLemmas.{IsSide}
+use Rattle.number_links.proofs.DescentLemmas.{IsSide, Waits}
 use Rattle.number_links.proofs.SeeingLemmas.{sole_there}
 
 -- ---- keys are put: those of some numbers, and then those of others
@@ -93,11 +93,22 @@ module _ (gs : List ℕ) (few : length gs ≤ 4294967296) where
         subst (λ k. new k ≡ true) (sym parent.of) (puts.adds parent.parent among parent.there);
   }
 
--- who is reached from a number, by key
-abbrev pub Reaches : (ℕ → List ℕ) → (ℕ → Bool) → List ℕ → ℕ → ℕ → Type 0
-Reaches next allowed gs root key = (n : ℕ) × IsReached next allowed (root ∷ []) n × (key ≡ key_of gs n)
+-- who is reached from some numbers, by key
+abbrev pub Reaches : (ℕ → List ℕ) → (ℕ → Bool) → List ℕ → List ℕ → ℕ → Type 0
+Reaches next allowed gs roots key = (n : ℕ) × IsReached next allowed roots n × (key ≡ key_of gs n)
 
--- ---- what is reached from a number with a generation
+-- a key is that of one of these numbers, which is allowed
+abbrev pub IsRoot : (ℕ → Bool) → List ℕ → List ℕ → ℕ → Type 0
+IsRoot allowed gs roots key = (n : ℕ) × Contains roots n × (allowed n ≡ true) × (key ≡ key_of gs n)
+
+-- those of these numbers that are allowed have generations
+abbrev pub AreHigh : (ℕ → Bool) → List ℕ → List ℕ → Type 0
+AreHigh allowed gs roots = (n : ℕ) → Contains roots n → allowed n ≡ true → 1 < generation gs n
+
+pub one_high : (allowed : ℕ → Bool) (gs : List ℕ) (root : ℕ) → 1 < generation gs root → AreHigh allowed gs (root ∷ [])
+one_high allowed gs root high n is there = subst (λ m. 1 < generation gs m) (sole_there root n is) high
+
+-- ---- what is reached from numbers with generations
 module _ (facts : Facts) (allowed : ℕ → Bool) (gs : List ℕ) (few : length gs ≤ 4294967296) (are : AreGenerations facts gs) where
   abbrev next : ℕ → List ℕ
   next = goes_on Parents facts
@@ -109,24 +120,24 @@ module _ (facts : Facts) (allowed : ℕ → Bool) (gs : List ℕ) (few : length 
       let small = bounded gs few parent.parent (are.above child.number parent.parent child.high parent.linked) in
       omega (arith, child.of, parent.of)
 
-  module _ (root : ℕ) (high : 1 < generation gs root) where
-    pub reached_high : (n : ℕ) → IsReached next allowed (root ∷ []) n → 1 < generation gs n
-    reached_high _ (Root n is there) = subst (λ m. 1 < generation gs m) (sole_there root n is) high
+  module _ (roots : List ℕ) (high : AreHigh allowed gs roots) where
+    pub reached_high : (n : ℕ) → IsReached next allowed roots n → 1 < generation gs n
+    reached_high _ (Root n is there) = high n is there
     reached_high _ (Next from n reached linked there) = are.above from n (reached_high from reached) linked
 
-    pub reached_under : (n : ℕ) → IsReached next allowed (root ∷ []) n → key_of gs n ≤ key_of gs root
-    reached_under _ (Root n is there) = subst (λ m. key_of gs m ≤ key_of gs root) (sole_there root n is) (omega arith)
-    reached_under _ (Next from n reached linked there) =
-        let before = reached_under from reached in
-        let under = are.lower from n (reached_high from reached) linked in
+    pub reached_under : (bound : ℕ) → ((key : ℕ) → IsRoot allowed gs roots key → key < bound) → (n : ℕ) → IsReached next allowed roots n → key_of gs n < bound
+    reached_under bound under _ (Root n is there) = under (key_of gs n) (n, is, there, refl)
+    reached_under bound under _ (Next from n reached linked there) =
+        let before = reached_under bound under from reached in
+        let less = are.lower from n (reached_high from reached) linked in
         let small = bounded gs few n (are.above from n (reached_high from reached) linked) in
         omega arith
 
-    pub reached_at : (n : ℕ) → 1 < generation gs n → Reaches next allowed gs root (key_of gs n) → IsReached next allowed (root ∷ []) n
-    reached_at n high_n (m, reached, same) = subst (IsReached next allowed (root ∷ [])) (sym (one_number gs few n m high_n (reached_high m reached) same)) reached
+    pub reached_at : (n : ℕ) → 1 < generation gs n → Reaches next allowed gs roots (key_of gs n) → IsReached next allowed roots n
+    reached_at n high_n (m, reached, same) = subst (IsReached next allowed roots) (sym (one_number gs few n m high_n (reached_high m reached) same)) reached
 
-    above_key : (key n : ℕ) → key ≡ key_of gs n → IsReached next allowed (root ∷ []) n → (key ≡ key_of gs root) ⊎ ((at : ℕ) × Reaches next allowed gs root at × IsParent next allowed gs at key)
-    above_key key _ of (Root n is there) = inl (of ∙ ap (key_of gs) (sym (sole_there root n is)))
+    above_key : (key n : ℕ) → key ≡ key_of gs n → IsReached next allowed roots n → IsRoot allowed gs roots key ⊎ ((at : ℕ) × Reaches next allowed gs roots at × IsParent next allowed gs at key)
+    above_key key _ of (Root n is there) = inl (n, is, there, of)
     above_key key _ of (Next from n reached linked there) = inr (
       key_of gs from,
       (from, reached, refl),
@@ -143,11 +154,31 @@ module _ (facts : Facts) (allowed : ℕ → Bool) (gs : List ℕ) (few : length 
       },
     )
 
-    pub side : IsSide (IsParent next allowed gs) (key_of gs root) (Reaches next allowed gs root)
+    pub side : IsSide (IsParent next allowed gs) (IsRoot allowed gs roots) (Reaches next allowed gs roots)
     side = record {
       above = λ key here. above_key key here.0 here.2 here.1;
       below = λ at key here parent.
           (let child = parent.child in
           let same = one_number gs few here.0 child.number (reached_high here.0 here.1) child.high (sym here.2 ∙ child.of) in
-          (parent.parent, Next child.number parent.parent (subst (IsReached next allowed (root ∷ [])) same here.1) parent.linked parent.there, parent.of));
+          (parent.parent, Next child.number parent.parent (subst (IsReached next allowed roots) same here.1) parent.linked parent.there, parent.of));
+    }
+
+    -- each key that is reached is that of a number with a generation
+    pub reached_key : (key : ℕ) → Reaches next allowed gs roots key → IsKey gs key
+    reached_key key here = record {
+      number = here.0;
+      of = here.2;
+      high = reached_high here.0 here.1;
+    }
+
+    -- at the start the keys of all roots wait, and are below the bound
+    pub waits_first : (bound : ℕ) → ((key : ℕ) → IsRoot allowed gs roots key → key < bound) → (waits outdone : ℕ → Bool) → Puts roots allowed gs (λ _. false) waits
+        → Waits (IsParent next allowed gs) (IsRoot allowed gs roots) (Reaches next allowed gs roots) bound waits outdone
+    waits_first bound under waits outdone puts = record {
+      sound = λ key there. elim (puts.only key there) [
+        | inl before ↦ absurd (cc)
+        | inr (n, among, seen, of) ↦ (under key (n, among, seen, of), (n, Root n among seen, of))
+      ];
+      root = λ key first _. subst (λ k. waits k ≡ true) (sym first.3) (puts.adds first.0 first.1 first.2);
+      step = λ at key here link _. (let within = reached_under bound under here.0 here.1 in inr (inr (omega (arith, here.2))));
     }

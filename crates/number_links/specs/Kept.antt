@@ -1,6 +1,6 @@
 -- Kept sets of all that numbers reach, so that a walk need not find them again (own).
 use Rattle.std.specs.Prelude.{◌≡◌, ℕ, Bool, true, List, [], ◌∷◌, Contains, is_some}
-use Rattle.number_sets.specs.Numbers.{has}
+use Rattle.number_links.specs.Numbers.{has}
 use Rattle.number_links.specs.Known.{Known, known, linked}
 use Rattle.number_links.specs.Reach.{IsReached}
 use Rattle.number_links.specs.declared.kept.Kept.{Kept}

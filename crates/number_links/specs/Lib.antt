@@ -4,6 +4,7 @@ pub mod Facts
 pub mod Generations
 pub mod Kept
 pub mod Known
+pub mod Numbers
 pub mod Reach
 pub mod Records
 pub mod Seeing

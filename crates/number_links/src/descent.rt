@@ -1,6 +1,6 @@
 // Finds best common ancestors. Numbers are visited in descending order of their keys.
 ghost use Rattle.std.specs.Prelude.{◌≡◌, ◌<◌, ◌≤◌, ◌⊎◌, ◌↔◌, ◌&&◌, ◌||◌, [], ◌∷◌, true, ℕ, length, nat_eq, is_some, IfOk, IfSome, OnOk};
-ghost use Rattle.number_sets.specs.Numbers.{has};
+ghost use Rattle.number_links.specs.Numbers.{has};
 ghost use Rattle.number_links.specs.Bases.{IsBest};
 ghost use Rattle.number_links.specs.Facts.{goes_on};
 ghost use Rattle.number_links.specs.Generations.{AreGenerations, generation};
@@ -10,15 +10,15 @@ ghost use Rattle.number_links.specs.declared.along.Along.TheVariants.{Parents as
 
 use crate::ground::Ground;
 use crate::keys::{key_of, last_of, last_of_both, number_of};
+use crate::number_set::NumberSet;
 use crate::waiting::{begin, go_on};
-use number_sets::NumberSet;
 use std::alloc::{AllocError, Global};
 
-// Adds a number if it is a best common ancestor.
-fn note(is_best: bool, n: u32, found: &mut NumberSet) -> Result<(), AllocError>
-    ensures { OnOk result ((q : ℕ) → has found.new q ≡ ((is_best && nat_eq q n) || has found.old q)) }
+// Adds a number if it is one of those to find.
+pub(crate) fn note(is_one: bool, n: u32, found: &mut NumberSet) -> Result<(), AllocError>
+    ensures { OnOk result ((q : ℕ) → has found.new q ≡ ((is_one && nat_eq q n) || has found.old q)) }
 {
-    if !is_best {
+    if !is_one {
         return Ok(());
     }
     found.reserve(n)?;

@@ -33,6 +33,13 @@ impl Generations {
         }
     }
 
+    // There are no more generations than numbers.
+    pub(crate) fn invariant(&self)
+        ensures { length self.now ≤ 4294967296 }
+    {
+        let _words = &self.words;
+    }
+
     // The generation of a number.
     pub(crate) fn at(&self, n: u32) -> u32
         ensures value { result ≡ get_or self.now n 0 }

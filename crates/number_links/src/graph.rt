@@ -1,6 +1,6 @@
 ghost use Rattle.std.specs.Prelude.{◌≡◌, ◌≢◌, ◌⊎◌, ◌↔◌, ℕ, List, [], ◌∷◌, Some, None, true, is_some, IfOk, IfSome, IfNone, OnOk, All, Contains};
 ghost use Rattle.std.specs.Option.{option_map};
-ghost use Rattle.number_sets.specs.Numbers.{has};
+ghost use Rattle.number_links.specs.Numbers.{has};
 ghost use Rattle.number_links.specs.Bases.{IsBest};
 ghost use Rattle.number_links.specs.Facts.{Learned, goes_on, learned, nothing, told};
 ghost use Rattle.number_links.specs.Kept.{IsKept};
@@ -13,20 +13,21 @@ use crate::climbing::climb_all;
 use crate::descent::bases;
 use crate::generations::Generations;
 use crate::ground::Ground;
+use crate::history::near;
 use crate::keeping::keep_all;
 use crate::kept::{Kept, let_go};
 use crate::links::Links;
+use crate::number_set::NumberSet;
 use crate::resting::Resting;
 use crate::taking::reach_all;
 use crate::times::Times;
 use crate::walking::walk;
-use number_sets::NumberSet;
 use std::alloc::{AllocError, Global};
 use std::marker::Model;
 
 /// The known links of numbers, and the times of commits. For some numbers, the set of all reachable numbers is kept,
 /// so that it need not be walked again. Some commits have generation numbers (topological levels, as in Git's
-/// commit-graph), which serve to find common ancestors.
+/// commit-graph), which serve to find common ancestors and histories.
 #[derive(Drop)]
 pub struct Graph {
     links: Links,
@@ -178,7 +179,8 @@ impl Graph {
     }
 
     /// The numbers reachable from `wanted`, but not from `excluded`, along the parents of commits. Returns `None` if a
-    /// number on the way neither rests nor has known links.
+    /// number on the way neither rests nor has known links. If some are excluded, and all roots that are allowed have
+    /// generation numbers, it visits only what lies between the two sides.
     pub fn history<R: Resting>(
         &self,
         alloc: Global,
@@ -191,15 +193,24 @@ impl Graph {
         ensures known { IfOk result (λ r. IfSome r (λ found. (n : ℕ) → IsReached (goes_on along_parents self.now) (has allowed.now) wanted.now n ⊎ IsReached (goes_on along_parents self.now) (has allowed.now) excluded.now n → RestsOrIsKnown self.now.links (R.rests resting.now) n)) }
         ensures unknown { IfOk result (λ r. IfNone r (ReachesUnknown (goes_on along_parents self.now) self.now.links (R.rests resting.now) (has allowed.now) wanted.now ⊎ ReachesUnknown (goes_on along_parents self.now) self.now.links (R.rests resting.now) (has allowed.now) excluded.now)) }
     {
-        history(
-            alloc,
-            &self.links,
-            &self.times,
+        let ground = Ground {
+            links: &self.links,
+            times: &self.times,
+            generations: &self.generations,
             allowed,
-            resting,
-            wanted,
-            excluded,
-        )
+        };
+        let Some(found) = near(alloc, &ground, wanted, excluded)? else {
+            return history(
+                alloc,
+                &self.links,
+                &self.times,
+                allowed,
+                resting,
+                wanted,
+                excluded,
+            );
+        };
+        Ok(Some(found))
     }
 }
 

@@ -6,8 +6,8 @@ ghost use Rattle.number_links.specs.declared.along.Along.TheVariants.{Parents as
 use crate::along::{Along, goes_from};
 use crate::generations::Generations;
 use crate::links::Links;
+use crate::number_set::NumberSet;
 use crate::times::Times;
-use number_sets::NumberSet;
 
 // The parents of numbers, their generations, and which numbers are allowed.
 #[derive(Clone, Copy)]

@@ -1,15 +1,15 @@
 // Keeps, for some numbers, the sets of all numbers reachable from them.
 ghost use Rattle.std.specs.Prelude.{◌≡◌, ◌⊎◌, ℕ, List, [], Some, All, true, is_some};
-ghost use Rattle.number_sets.specs.Numbers.{has};
+ghost use Rattle.number_links.specs.Numbers.{has};
 ghost use Rattle.number_links.specs.Kept.{IsKept};
 ghost use Rattle.number_links.specs.Known.{known};
 
 use crate::kept::{Kept, put};
 use crate::links::Links;
+use crate::number_set::NumberSet;
 use crate::resting::Resting;
 use crate::settling::settle;
 use crate::taking::reach_all;
-use number_sets::NumberSet;
 use std::alloc::Global;
 
 // A set that takes fewer steps to find is not kept.

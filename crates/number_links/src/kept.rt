@@ -1,10 +1,10 @@
 // Kept sets of reachable numbers, so that a walk need not find them again.
 ghost use Rattle.std.specs.Prelude.{◌≡◌, [], ◌∷◌, ℕ, All, IfSome, false, true};
-ghost use Rattle.number_sets.specs.Numbers.{has};
+ghost use Rattle.number_links.specs.Numbers.{has};
 ghost use Rattle.number_links.specs.Kept.{IsAllLedTo, IsKept};
 ghost use Rattle.number_links.specs.Known.{Known};
 
-use number_sets::NumberSet;
+use crate::number_set::NumberSet;
 
 // The largest number of kept sets.
 const MOST: usize = 16;

@@ -31,6 +31,18 @@ pub(crate) fn last_of(keys: &BTreeSet<u64>, at: u64) -> u64
     if *last > at { *last } else { at }
 }
 
+// The last of these keys.
+pub(crate) fn last_key(keys: &BTreeSet<u64>) -> Option<u64>
+    ensures among { IfSome result (λ at. waits keys.now at ≡ true) }
+    ensures most { IfSome result (λ at. (key : ℕ) → waits keys.now key ≡ true → key ≤ at) }
+    ensures none { IfNone result ((key : ℕ) → waits keys.now key ≡ false) }
+{
+    let Some(last) = keys.last() else {
+        return None;
+    };
+    Some(*last)
+}
+
 // The greatest key in either set, or `None` if one of the sets is empty.
 pub(crate) fn last_of_both(a: &BTreeSet<u64>, b: &BTreeSet<u64>) -> Option<u64>
     ensures among { IfSome result (λ at. (waits a.now at ≡ true) ⊎ (waits b.now at ≡ true)) }

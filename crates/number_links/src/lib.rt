@@ -1,5 +1,6 @@
 //! The known links from numbers to numbers, and walks along them. A walk reads no object, and visits only numbers
 //! that are allowed.
+//! `NumberSet` has one bit for each number, in pages that are allocated only for numbers that are to be added.
 #![tactic(auto)]
 
 mod along;
@@ -8,6 +9,7 @@ mod descent;
 mod generations;
 mod graph;
 mod ground;
+mod history;
 mod keeping;
 mod kept;
 mod keys;
@@ -15,16 +17,21 @@ mod links;
 mod lists;
 mod marking;
 mod noting;
+mod number_set;
 mod packing;
+mod page;
 mod records;
 mod resting;
 mod settling;
+mod slot;
 mod taking;
 mod times;
 mod waiting;
 mod walking;
+mod words;
 
 pub use crate::along::Along;
 pub use crate::graph::Graph;
 pub use crate::links::Links;
+pub use crate::number_set::NumberSet;
 pub use crate::resting::Resting;

@@ -1,9 +1,9 @@
 ghost use Rattle.std.specs.Prelude.{[], ◌∷◌, OnOk};
-ghost use Rattle.number_sets.specs.Numbers.{has};
+ghost use Rattle.number_links.specs.Numbers.{has};
 ghost use Rattle.number_links.specs.Reach.{past};
 ghost use Rattle.number_links.specs.Seeing.{Sees};
 
-use number_sets::NumberSet;
+use crate::number_set::NumberSet;
 use std::alloc::AllocError;
 
 // Adds a number to `seen` and `waiting` if it is allowed, not hidden, and not yet seen. A walk meets most numbers

@@ -1,10 +1,10 @@
 // Makes the links of the numbers in a set known, and tests whether they stay in the set.
 ghost use Rattle.std.specs.Prelude.{◌≡◌, ◌⊎◌, ◌<◌, ℕ, List, [], Some, None, true, is_some, Contains};
-ghost use Rattle.number_sets.specs.Numbers.{has};
+ghost use Rattle.number_links.specs.Numbers.{has};
 ghost use Rattle.number_links.specs.Known.{known, linked};
 
 use crate::links::Links;
-use number_sets::NumberSet;
+use crate::number_set::NumberSet;
 
 // Whether a set has all of these numbers.
 fn has_all(numbers: &NumberSet, these: &[u32]) -> bool

@@ -1,6 +1,6 @@
 // A walk that takes each kept set as a whole.
 ghost use Rattle.std.specs.Prelude.{◌≡◌, ◌||◌, ℕ, All, None, false, true, IfOk, IfSome, IfNone, OnOk};
-ghost use Rattle.number_sets.specs.Numbers.{has};
+ghost use Rattle.number_links.specs.Numbers.{has};
 ghost use Rattle.number_links.specs.Kept.{IsKept};
 ghost use Rattle.number_links.specs.Known.{RestsOrIsKnown, known, linked};
 ghost use Rattle.number_links.specs.Reach.{IsReached, ReachesUnknown};
@@ -8,9 +8,9 @@ ghost use Rattle.number_links.specs.Reach.{IsReached, ReachesUnknown};
 use crate::kept::{Kept, find};
 use crate::links::Links;
 use crate::noting::note_all;
+use crate::number_set::NumberSet;
 use crate::resting::Resting;
 use crate::walking::next;
-use number_sets::NumberSet;
 use std::alloc::{AllocError, Global};
 
 // Adds all numbers of another set.

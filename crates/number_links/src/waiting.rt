@@ -1,6 +1,6 @@
 // The keys that wait in the descent from two numbers.
 ghost use Rattle.std.specs.Prelude.{◌≡◌, ◌≤◌, ◌&&◌, [], ◌∷◌, not, false, ℕ, length, IfOk, OnOk};
-ghost use Rattle.number_sets.specs.Numbers.{has};
+ghost use Rattle.number_links.specs.Numbers.{has};
 ghost use Rattle.number_links.specs.Descent.{GoesOn, IsKey, IsParent, Puts, SettlesKey, waits};
 ghost use Rattle.number_links.specs.Facts.{goes_on};
 ghost use Rattle.number_links.specs.declared.along.Along.TheVariants.{Parents as along_parents};
@@ -31,7 +31,11 @@ fn put(ground: &Ground<'_>, n: u32, keys: &mut BTreeSet<u64>) -> Result<(), Allo
 }
 
 // Does the same for each of these numbers.
-fn put_all(ground: &Ground<'_>, numbers: &[u32], keys: &mut BTreeSet<u64>) -> Result<(), AllocError>
+pub(crate) fn put_all(
+    ground: &Ground<'_>,
+    numbers: &[u32],
+    keys: &mut BTreeSet<u64>,
+) -> Result<(), AllocError>
     ensures { OnOk result (Puts numbers.now (has ground.now.allowed.now) ground.now.generations.now (waits keys.old) (waits keys.new)) }
 {
     for n in numbers {
@@ -41,7 +45,7 @@ fn put_all(ground: &Ground<'_>, numbers: &[u32], keys: &mut BTreeSet<u64>) -> Re
 }
 
 // Removes a key. If it is followed, the keys of its parents are added.
-fn settle(
+pub(crate) fn settle(
     ground: &Ground<'_>,
     at: u64,
     is_followed: bool,

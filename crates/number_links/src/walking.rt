@@ -1,5 +1,5 @@
 ghost use Rattle.std.specs.Prelude.{◌≡◌, ◌⊎◌, ◌↔◌, ℕ, None, true, false, IfOk, IfSome, IfNone};
-ghost use Rattle.number_sets.specs.Numbers.{has};
+ghost use Rattle.number_links.specs.Numbers.{has};
 ghost use Rattle.number_links.specs.Facts.{goes_on};
 ghost use Rattle.number_links.specs.Known.{RestsOrIsKnown, known, linked};
 ghost use Rattle.number_links.specs.Reach.{IsReached, ReachesUnknown, past};
@@ -7,9 +7,9 @@ ghost use Rattle.number_links.specs.Reach.{IsReached, ReachesUnknown, past};
 use crate::along::{Along, goes_from};
 use crate::links::Links;
 use crate::noting::note_all;
+use crate::number_set::NumberSet;
 use crate::resting::Resting;
 use crate::times::Times;
-use number_sets::NumberSet;
 use std::alloc::{AllocError, Global};
 
 // The numbers reachable from the roots through ones that are allowed and not hidden, or `None` if one of them neither

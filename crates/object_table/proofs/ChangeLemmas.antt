@@ -13,7 +13,7 @@ use Rattle.git_name.specs.Name.{name_cmp}
 use Rattle.git_name.specs.Same.{same_name}
 use Rattle.git_name.proofs.MapLemmas.{get_map_values, map_values_empty}
 use Rattle.git_name.proofs.Names.{name_exact, name_total}
-use Rattle.number_sets.specs.Numbers.{has}
+use Rattle.number_links.specs.Numbers.{has}
 use Rattle.object_table.specs.Adopted.{AllAlike}
 use Rattle.object_table.specs.Clashes.{AreAs, Clash, DescribesUnheld, HasRow, IsAs, RowClash}
 use Rattle.object_table.specs.Coming.{coming_at, coming_in, entry_under}

@@ -16,7 +16,7 @@ use Rattle.git_name.specs.Same.{is_listed, same_name}
 use Rattle.git_name.proofs.HashMaps.{distinct_by_order, one_test}
 use Rattle.git_name.proofs.Names.{name_exact, name_total}
 use Rattle.git_name.proofs.SortedNames.{sorted_entries}
-use Rattle.number_sets.specs.Numbers.{has}
+use Rattle.number_links.specs.Numbers.{has}
 use Rattle.object_table.specs.Chosen.{chosen_in}
 use Rattle.object_table.specs.declared.row.Row.{Row}
 use Rattle.object_table.specs.declared.word.Word.{Word}

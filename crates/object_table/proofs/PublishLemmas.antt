@@ -6,7 +6,7 @@ use Rattle.std.specs.FinMap.{FinMap, contains_key, empty, get, get-empty, get-in
 use Rattle.git_name.specs.Name.{name_cmp}
 use Rattle.git_name.proofs.MapLemmas.{get_map_values, map_values_insert}
 use Rattle.git_name.proofs.Names.{name_exact, name_total}
-use Rattle.number_sets.specs.Numbers.{has}
+use Rattle.number_links.specs.Numbers.{has}
 use Rattle.object_table.specs.Holders.{AreHeld, holders_of}
 use Rattle.object_table.specs.Ledgers.{with_ledger}
 use Rattle.object_table.specs.declared.row.Row.{Row}

@@ -8,7 +8,7 @@ use Rattle.std.proofs.lemmas.Bool.{ltb-false, ltb-true}
 use Rattle.std.proofs.lemmas.List.{get_or-take, get_or_default, length-take-le}
 use Rattle.git_name.specs.Same.{same_name}
 use Rattle.git_name.proofs.Names.{name_exact, name_total}
-use Rattle.number_sets.specs.Numbers.{has_room}
+use Rattle.number_links.specs.Numbers.{has_room}
 use Rattle.object_table.specs.Clashes.{HasRow}
 use Rattle.object_table.specs.Coming.{seen_over, seen_words}
 use Rattle.object_table.specs.declared.entry.Entry.{Entry}

@@ -11,7 +11,7 @@ use Rattle.number_links.specs.declared.along.Along.{Along}
 use Rattle.number_links.specs.declared.along.Along.TheVariants.{Links, Parents}
 use Rattle.number_links.proofs.FactLemmas.{some_learned}
 use Rattle.number_links.specs.Reach.{IsReached as Goes, Root as Begins, Next as GoesOn}
-use Rattle.number_sets.specs.Numbers.{Pages, has}
+use Rattle.number_links.specs.Numbers.{Pages, has}
 use Rattle.object_table.specs.declared.row.Row.{Row}
 use Rattle.object_table.specs.declared.word.Word.{Word}
 use Rattle.object_table.specs.Links.{AreLinks, leads_nowhere, led_from, named_links, next_along, numbered_name, rests_in}

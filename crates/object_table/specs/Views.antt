@@ -5,8 +5,8 @@ use Rattle.std.specs.FinMap.{FinMap, code, contains_key, empty, from_entries}
 use Rattle.std.specs.Option.{option_map, option_map_or}
 use Rattle.git_name.specs.Maps.{map_values}
 use Rattle.git_name.specs.Name.{name_cmp}
-use Rattle.number_sets.specs.Numbers.{Pages, has, has_room}
-use Rattle.number_sets.specs.contracts.number_set.NumberSet as number_set
+use Rattle.number_links.specs.Numbers.{Pages, has, has_room}
+use Rattle.number_links.specs.contracts.number_set.NumberSet as number_set
 use Rattle.object_table.specs.Chosen.{chosen_in}
 use Rattle.object_table.specs.declared.row.Row.{Row}
 use Rattle.object_table.specs.declared.word.Word.{Word}

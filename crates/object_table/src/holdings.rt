@@ -377,20 +377,21 @@ impl Holdings {
     /// The names of the objects that the tenant sees and that are reachable from `wanted`, but not from `excluded`,
     /// along the parents of commits. Returns `None` if the links of an object on the way are not known.
     pub fn history(
-        &self,
+        &mut self,
         alloc: Global,
         tenant: &TenantName,
         wanted: &[Name],
         excluded: &[Name],
     ) -> Result<Option<IndexSet<Name, Hashing>>, AllocError>
-        ensures only { IfOk result (λ found. IfSome found (λ names. (name : List ℕ) → contains same_name names name ≡ true → IsBetween (words_that is_visible (ledger_at self.now.ledgers tenant.now)) (parents_named self.now.links) wanted.now excluded.now name)) }
-        ensures all { IfOk result (λ found. IfSome found (λ names. (name : List ℕ) → IsBetween (words_that is_visible (ledger_at self.now.ledgers tenant.now)) (parents_named self.now.links) wanted.now excluded.now name → contains same_name names name ≡ true)) }
-        ensures known { IfOk result (λ found. IfSome found (λ names. (name : List ℕ) → IsMet (words_that is_visible (ledger_at self.now.ledgers tenant.now)) (parents_named self.now.links) wanted.now excluded.now name → (option_map_or (λ word. leads_nowhere word.kind) (map.get (words_that is_visible (ledger_at self.now.ledgers tenant.now)) name) false ≡ true) ⊎ (map.contains_key self.now.links name ≡ true))) }
+        ensures same { self.new ≡ self.old }
+        ensures only { IfOk result (λ found. IfSome found (λ names. (name : List ℕ) → contains same_name names name ≡ true → IsBetween (words_that is_visible (ledger_at self.old.ledgers tenant.now)) (parents_named self.old.links) wanted.now excluded.now name)) }
+        ensures all { IfOk result (λ found. IfSome found (λ names. (name : List ℕ) → IsBetween (words_that is_visible (ledger_at self.old.ledgers tenant.now)) (parents_named self.old.links) wanted.now excluded.now name → contains same_name names name ≡ true)) }
+        ensures known { IfOk result (λ found. IfSome found (λ names. (name : List ℕ) → IsMet (words_that is_visible (ledger_at self.old.ledgers tenant.now)) (parents_named self.old.links) wanted.now excluded.now name → (option_map_or (λ word. leads_nowhere word.kind) (map.get (words_that is_visible (ledger_at self.old.ledgers tenant.now)) name) false ≡ true) ⊎ (map.contains_key self.old.links name ≡ true))) }
     {
         let Some(own) = self.ledgers.get(tenant) else {
             return Ok(None);
         };
-        names_in_history(alloc, &self.table, &self.links, own, wanted, excluded)
+        names_in_history(alloc, &self.table, &mut self.links, own, wanted, excluded)
     }
 
     /// The names of the best common ancestors of two commits among the objects that a tenant sees, or `None` if the

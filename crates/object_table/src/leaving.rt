@@ -7,7 +7,7 @@ use crate::ledger::Ledger;
 use crate::name_set::NameSet;
 use crate::settling::settle;
 use crate::table::Table;
-use nearby::Nearby;
+use git_name::Nearby;
 
 // Drops everything that is staged.
 pub(crate) fn discard(table: &mut Table, own: &mut Ledger)

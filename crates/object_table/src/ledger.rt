@@ -1,9 +1,9 @@
 ghost use Rattle.std.specs.Prelude.{◌≡◌, ◌<◌, ◌≤◌, ◌+◌, ◌^◌, ◌||◌, ℕ, true, false, nat_eq, OnOk, IfSome, IfNone, if◌then◌else◌};
-ghost use Rattle.number_sets.specs.Numbers.{has, has_room};
+ghost use Rattle.number_links.specs.Numbers.{has, has_room};
 ghost use Rattle.object_table.specs.Views.{holds};
 
 use fork_reach::OBJECT_USE;
-use number_sets::NumberSet;
+use number_links::NumberSet;
 use std::alloc::{AllocError, Global};
 use std::marker::Model;
 
@@ -18,7 +18,7 @@ pub(crate) struct Ledger {
 }
 
 impl Model for Ledger {
-    ghost use Rattle.number_sets.specs.Numbers.{HasRoomOf};
+    ghost use Rattle.number_links.specs.Numbers.{HasRoomOf};
     ghost use Rattle.object_table.specs.Views.{Sets, sets_code};
 
     ghost Value = { Sets };

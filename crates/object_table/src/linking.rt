@@ -5,7 +5,7 @@ ghost use Rattle.std.specs.HashSet.{contains};
 ghost use Rattle.std.specs.Option.{option_map_or};
 ghost use Rattle.git_name.specs.Same.{same_name};
 ghost use Rattle.number_links.specs.Facts.{Learned, nothing};
-ghost use Rattle.number_sets.specs.Numbers.{has};
+ghost use Rattle.number_links.specs.Numbers.{has};
 ghost use Rattle.object_table.specs.Links.{AreLinks, leads_nowhere, named_links, next_named, numbered_name, parents_named, rests_in};
 ghost use Rattle.object_table.specs.Rows.{IsUsed, row_in};
 ghost use Rattle.object_table.specs.Views.{IsOwn, words_of};
@@ -17,8 +17,7 @@ use crate::ledger::Ledger;
 use crate::table::Table;
 use git_name::{Hashing, Kind, Name};
 use indexmap::IndexSet;
-use number_links::{Graph, Resting};
-use number_sets::NumberSet;
+use number_links::{Graph, NumberSet, Resting};
 use std::alloc::{AllocError, Global};
 
 // Whether an object of this kind has no links.
@@ -113,6 +112,17 @@ pub(crate) fn names_of(
     Ok(names)
 }
 
+// Gives these commits and their ancestors generation numbers, if a history past others is asked for. Only that uses them.
+fn learn_generations(alloc: Global, links: &mut Graph, wanted: &[u32], excluded: &[u32])
+    ensures { links.new ≡ links.old }
+{
+    if excluded.is_empty() {
+        return;
+    }
+    links.learn_generations(alloc, wanted);
+    links.learn_generations(alloc, excluded);
+}
+
 // The names of the visible objects that are reachable from `wanted` but not from `excluded`, or `None` if the links
 // of an object on the way are not known.
 pub(crate) fn names_between(
@@ -150,28 +160,25 @@ pub(crate) fn names_between(
 pub(crate) fn names_in_history(
     alloc: Global,
     table: &Table,
-    links: &Graph,
+    links: &mut Graph,
     own: &Ledger,
     wanted: &[Name],
     excluded: &[Name],
 ) -> Result<Option<IndexSet<Name, Hashing>>, AllocError>
     requires own { IsOwn table.now.entries own.now }
-    requires linked { AreLinks table.now.entries links.now }
-    ensures only { IfOk result (λ found. IfSome found (λ names. (name : List ℕ) → contains same_name names name ≡ true → IsBetween (words_that is_visible (words_of table.now.entries own.now)) (parents_named (named_links table.now.entries links.now)) wanted.now excluded.now name)) }
-    ensures all { IfOk result (λ found. IfSome found (λ names. (name : List ℕ) → IsBetween (words_that is_visible (words_of table.now.entries own.now)) (parents_named (named_links table.now.entries links.now)) wanted.now excluded.now name → contains same_name names name ≡ true)) }
-    ensures known { IfOk result (λ found. IfSome found (λ names. (name : List ℕ) → IsMet (words_that is_visible (words_of table.now.entries own.now)) (parents_named (named_links table.now.entries links.now)) wanted.now excluded.now name → (option_map_or (λ word. leads_nowhere word.kind) (get (words_that is_visible (words_of table.now.entries own.now)) name) false ≡ true) ⊎ (contains_key (named_links table.now.entries links.now) name ≡ true))) }
+    requires linked { AreLinks table.now.entries links.old }
+    ensures same { links.new ≡ links.old }
+    ensures only { IfOk result (λ found. IfSome found (λ names. (name : List ℕ) → contains same_name names name ≡ true → IsBetween (words_that is_visible (words_of table.now.entries own.now)) (parents_named (named_links table.now.entries links.old)) wanted.now excluded.now name)) }
+    ensures all { IfOk result (λ found. IfSome found (λ names. (name : List ℕ) → IsBetween (words_that is_visible (words_of table.now.entries own.now)) (parents_named (named_links table.now.entries links.old)) wanted.now excluded.now name → contains same_name names name ≡ true)) }
+    ensures known { IfOk result (λ found. IfSome found (λ names. (name : List ℕ) → IsMet (words_that is_visible (words_of table.now.entries own.now)) (parents_named (named_links table.now.entries links.old)) wanted.now excluded.now name → (option_map_or (λ word. leads_nowhere word.kind) (get (words_that is_visible (words_of table.now.entries own.now)) name) false ≡ true) ⊎ (contains_key (named_links table.now.entries links.old) name ≡ true))) }
 {
     table.invariant();
     let wants = numbers_there(alloc, table, wanted)?;
     let haves = numbers_there(alloc, table, excluded)?;
-    let Some(numbers) = links.history(
-        alloc,
-        own.visible(),
-        table,
-        wants.as_slice(),
-        haves.as_slice(),
-    )?
-    else {
+    let from = wants.as_slice();
+    let past = haves.as_slice();
+    learn_generations(alloc, links, from, past);
+    let Some(numbers) = links.history(alloc, own.visible(), table, from, past)? else {
         return Ok(None);
     };
     let names = names_of(alloc, table, &numbers)?;

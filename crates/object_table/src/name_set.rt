@@ -1,8 +1,7 @@
 ghost use Rattle.std.specs.Prelude.{◌≡◌, Bool, List, ℕ};
 
-use git_name::{Hashing, Name};
+use git_name::{Hashing, Name, Nearby};
 use indexmap::IndexSet;
-use nearby::Nearby;
 
 /// A set of names.
 pub trait NameSet {

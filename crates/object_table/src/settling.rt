@@ -2,7 +2,7 @@
 ghost use Rattle.std.specs.Prelude.{◌≡◌, ◌<◌, ◌+◌, ◌^◌, ◌||◌, ℕ, List, true, false, nat_eq, Some, IfSome, IfNone, if◌then◌else◌};
 ghost use Rattle.std.specs.FinMap.{get};
 ghost use Rattle.git_name.specs.Same.{same_name};
-ghost use Rattle.number_sets.specs.Numbers.{has, has_room};
+ghost use Rattle.number_links.specs.Numbers.{has, has_room};
 ghost use Rattle.object_table.specs.Rows.{row_in};
 ghost use Rattle.object_table.specs.Views.{IsOne, Moves, standing_by, word_by, word_in, words_of};
 

@@ -2,7 +2,7 @@
 // halfway.
 ghost use Rattle.std.specs.Prelude.{◌≡◌, true, ℕ, OnErr, OnOk};
 ghost use Rattle.std.specs.List.{All};
-ghost use Rattle.number_sets.specs.Numbers.{has_room};
+ghost use Rattle.number_links.specs.Numbers.{has_room};
 ghost use Rattle.object_table.specs.AllStaged.{all_staged_words};
 ghost use Rattle.object_table.specs.Clashes.{HasRow};
 ghost use Rattle.object_table.specs.Coming.{all_seen_words, seen_words};

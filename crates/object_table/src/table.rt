@@ -8,9 +8,8 @@ ghost use Rattle.object_table.specs.declared.row.Row.{Row};
 use crate::numbers::{extend, switch};
 use crate::row::Row;
 use crate::rows::{entry_at, looked_place, put_last, take_out, write_at};
-use git_name::{Hashing, Kind, Name};
+use git_name::{Hashing, Kind, Name, Nearby};
 use indexmap::IndexMap;
-use nearby::Nearby;
 use std::alloc::{AllocError, Global};
 use std::marker::Model;
 

@@ -1,4 +1,5 @@
 mod fetches;
+mod folders;
 mod hashes;
 mod histories;
 mod hosts;

@@ -1,4 +1,3 @@
 pub mod CacheLemmas
-pub mod KnownLemmas
 pub mod SureLemmas
 pub mod WholeLemmas

@@ -1,14 +1,24 @@
 -- Each file of a sure store stays whole as files change.
 use Rattle.std.proofs.Common.{◌≡◌, ℕ, Bool, true, false, cond, List, None, Some, refl, sym, ap, subst, ◌∙◌, IsTrue}
 use Rattle.std.specs.FinMap.{empty, get, get-empty, get-insert, get-remove, insert, remove}
-use Rattle.std.specs.Ordering.{eq_by_cmp}
+use Rattle.std.specs.declared.cmp.Ordering.{Ordering}
+use Rattle.std.specs.declared.cmp.Ordering.TheVariants.{Less, Equal, Greater}
+use Rattle.std.specs.Ordering.{eq_by_cmp, is_eq}
 use Rattle.git_name.specs.Name.{name_cmp}
 use Rattle.git_name.specs.Object.{Object, object_name, typed_bytes}
-use Rattle.git_name.proofs.Names.{name_total}
+use Rattle.git_name.proofs.Names.{name_total, name_exact}
 use Rattle.loose_store.specs.Files.{Files}
 use Rattle.loose_store.specs.Stored.{Whole}
 use Rattle.read_cache.specs.Cached.{HasWholeFiles, IsSure}
-use Rattle.read_cache.proofs.KnownLemmas.{tied_names}
+
+-- names that tie are the same
+is_equal : (o : Ordering) → is_eq o ≡ true → o ≡ Equal
+is_equal Less e = cc
+is_equal Equal e = refl
+is_equal Greater e = cc
+
+pub tied_names : (q k : List ℕ) → eq_by_cmp name_cmp q k ≡ true → q ≡ k
+tied_names q k same = name_exact q k (is_equal (name_cmp q k) same)
 
 -- for an unchanged store
 pub sure_at : (sure h k : Bool) (fs gs : Files) → k ≡ h → (IsTrue h → gs ≡ fs) → IsSure sure h fs → IsSure sure k gs

@@ -4,7 +4,6 @@ use Rattle.git_name.specs.Object.{Object, object_name}
 use Rattle.loose_store.specs.Files.{Files, SameBut}
 use Rattle.loose_store.specs.Stored.{Whole}
 use Rattle.read_cache.specs.Cached.{AreWhole, Cached, IsSure}
-use Rattle.read_cache.specs.Known.{AreKnown, Surveyed}
 
 -- the same files, and no more objects in the cache
 pub whole_less : (es fs : Cached) (old new : Files) → ((n : List ℕ) (o : Object) → Contains fs (n, o) → Contains es (n, o)) → new ≡ old → AreWhole es old → AreWhole fs new
@@ -27,8 +26,8 @@ whole_more es fs old new object more same one whole n o there = subst (λ files.
     by (inr (name, is)) = subst (λ m. Whole old m o) (sym name) (subst (λ p. Whole old (object_name object) p) (sym is) one)
 
 -- what holds of a cache over a store still holds if the store has not changed
-pub store_stays : (cache : Cached) (survey : Surveyed) (sure h k : Bool) (fs gs : Files) → k ≡ h → gs ≡ fs
-    → (IsTrue h → AreWhole cache fs) × AreKnown h fs survey × IsSure sure h fs → (IsTrue k → AreWhole cache gs) × AreKnown k gs survey × IsSure sure k gs
-store_stays cache survey sure h k fs gs same files held =
-    subst (λ b. (IsTrue b → AreWhole cache gs) × AreKnown b gs survey × IsSure sure b gs) (sym same)
-    (subst (λ f. (IsTrue h → AreWhole cache f) × AreKnown h f survey × IsSure sure h f) (sym files) held)
+pub store_stays : (cache : Cached) (sure h k : Bool) (fs gs : Files) → k ≡ h → gs ≡ fs
+    → (IsTrue h → AreWhole cache fs) × IsSure sure h fs → (IsTrue k → AreWhole cache gs) × IsSure sure k gs
+store_stays cache sure h k fs gs same files held =
+    subst (λ b. (IsTrue b → AreWhole cache gs) × IsSure sure b gs) (sym same)
+    (subst (λ f. (IsTrue h → AreWhole cache f) × IsSure sure h f) (sym files) held)

@@ -1,34 +1,30 @@
-ghost use Rattle.std.specs.Prelude.{◌≡◌, ◌≢◌, IsTrue, IfErr, IfOk, IfSome, OnOk, Some, true};
+ghost use Rattle.std.specs.Prelude.{◌≡◌, IsTrue, IfErr, IfOk, IfSome, OnOk, Some, true};
 ghost use Rattle.std.specs.FinMap as map;
 ghost use Rattle.git_name.specs.Object.{object_name, typed_bytes};
 ghost use Rattle.loose_store.specs.Files.{SameBut};
 ghost use Rattle.loose_store.specs.Failures.{Counts, CountsPut};
 ghost use Rattle.loose_store.specs.Stored.{ReadsTo, Whole, CountsRead as CountsAsked};
-ghost use Rattle.read_cache.specs.Known.{AreKnown, IsKnown};
 ghost use Rattle.read_cache.specs.Stores.{CountsCachedRead};
 
 use crate::read_cache::ReadCache;
-use crate::survey::Survey;
 use git_name::{Hashing, Kind, Name, Sealed, seal_as};
 use loose_store::{FileFault, LooseFiles, StoreFault, content_of, one_object, read_checked};
 use std::alloc::{AllocError, Global};
 use std::marker::Model;
 
-/// A store with a cache of the objects that were read last, and with the results of a survey. Its value is that of the
-/// store. Over an honest store, each cached or surveyed object has its whole file. If the store was fresh, every file
-/// in it was written here, whole, so it is not hashed again.
+/// A store with a cache of the objects that were read last. Its value is that of the store. Over an honest store, each
+/// cached object has its whole file. If the store was fresh, every file in it was written here, whole, so it is not
+/// hashed again.
 #[derive(Drop)]
 pub struct CachedStore<S: LooseFiles> {
     files: S,
     cache: ReadCache,
-    survey: Survey,
     is_sure: bool,
 }
 
 impl<S: LooseFiles> Model for CachedStore<S> {
     ghost use Rattle.std.specs.Prelude.{IsTrue};
     ghost use Rattle.read_cache.specs.Cached.{AreWhole, IsSure};
-    ghost use Rattle.read_cache.specs.Known.{AreKnown};
     ghost use Rattle.read_cache.specs.Stores.{StoreState, store_code};
 
     ghost Value = { StoreState };
@@ -41,7 +37,7 @@ impl<S: LooseFiles> Model for CachedStore<S> {
       failures = S.failures a.files;
     } };
 
-    ghost invariant = { λ a. (IsTrue (S.honest a.files) → AreWhole a.cache (S.contents a.files)) × AreKnown (S.honest a.files) (S.contents a.files) a.survey × IsSure a.is_sure (S.honest a.files) (S.contents a.files) };
+    ghost invariant = { λ a. (IsTrue (S.honest a.files) → AreWhole a.cache (S.contents a.files)) × IsSure a.is_sure (S.honest a.files) (S.contents a.files) };
 }
 
 impl<S: LooseFiles + Drop> CachedStore<S> {
@@ -52,12 +48,10 @@ impl<S: LooseFiles + Drop> CachedStore<S> {
         ensures failures { IfOk result (λ store. store.failures ≡ S.failures files) }
     {
         let cache = ReadCache::new(alloc)?;
-        let survey = Survey::new(alloc);
         let is_sure = files.is_fresh();
         Ok(CachedStore {
             files,
             cache,
-            survey,
             is_sure,
         })
     }
@@ -116,32 +110,6 @@ impl<S: LooseFiles> CachedStore<S> {
         read_checked(alloc, &mut self.files, name)
     }
 
-    /// Reads the object of this name as `read_past` does, and adds it to the survey that `knows` looks in.
-    pub fn survey(&mut self, alloc: Global, name: Name) -> Result<Option<Sealed>, StoreFault>
-        ensures reads { IsTrue self.old.honest → ReadsTo self.old.contents name result }
-        ensures kept { IsTrue self.old.honest → self.new.contents ≡ self.old.contents }
-        // Over any store.
-        ensures named { IfOk result (λ found. IfSome found (λ sealed. object_name sealed ≡ name)) }
-        ensures honest { self.new.honest ≡ self.old.honest }
-        ensures cause { CountsCachedRead self.old.failures self.new.failures result }
-    {
-        read_and_note(alloc, &mut self.files, &mut self.survey, name)
-    }
-
-    /// Whether a survey found the object of this name with this kind and length, and no file has changed since.
-    pub fn knows(&self, name: Name, kind: Kind, length: u64) -> bool
-        ensures { result ≡ true → IsKnown self.now.honest self.now.contents name kind length }
-    {
-        has(&self.survey, name, kind, length)
-    }
-
-    /// Clears the survey.
-    pub fn end_survey(&mut self)
-        ensures { self.new ≡ self.old }
-    {
-        self.survey.end();
-    }
-
     /// The names of the files, ascending.
     pub fn names(&mut self, alloc: Global) -> Result<Vec<Name>, FileFault>
         ensures found { IsTrue self.old.honest → IfOk result (λ names. names.items ≡ map.keys self.old.contents) }
@@ -153,21 +121,23 @@ impl<S: LooseFiles> CachedStore<S> {
         self.files.names(alloc)
     }
 
-    /// Writes the file of an object, replacing one of its name.
-    pub fn put(&mut self, alloc: Global, sealed: Sealed) -> Result<(), FileFault>
+    /// Writes the file of an object, replacing one of its name. Returns the object, unless the store keeps it.
+    pub fn put(&mut self, alloc: Global, sealed: Sealed) -> Result<Option<Sealed>, FileFault>
         ensures ok { IsTrue self.old.honest → OnOk result (self.new.contents ≡ map.insert self.old.contents (object_name sealed) (typed_bytes sealed)) }
         ensures others { IsTrue self.old.honest → SameBut (object_name sealed) self.old.contents self.new.contents }
         ensures honest { self.new.honest ≡ self.old.honest }
+        ensures back { IfOk result (λ back. IfSome back (λ given. given ≡ sealed)) }
         ensures cause { CountsPut self.old.failures self.new.failures result }
     {
         let name = sealed.name();
         self.cache.forget(name);
-        self.survey.end();
-        let Err(fault) = self.files.put_object(alloc, sealed) else {
-            return Ok(());
-        };
-        self.is_sure = false;
-        Err(fault)
+        match self.files.put_object(alloc, sealed) {
+            Ok(back) => Ok(back),
+            Err(fault) => {
+                self.is_sure = false;
+                Err(fault)
+            }
+        }
     }
 
     /// Notes that the caller relies on an existing file: the next `sync` includes it.
@@ -211,7 +181,6 @@ impl<S: LooseFiles> CachedStore<S> {
         ensures cause { Counts self.old.failures self.new.failures result }
     {
         self.cache.forget(name);
-        self.survey.end();
         let Err(fault) = self.files.remove(alloc, name) else {
             return Ok(());
         };
@@ -345,39 +314,4 @@ fn opened(alloc: Global, file: &[u8], name: Name) -> Result<Option<Sealed>, Stor
         return Err(StoreFault::Memory);
     };
     Ok(Some(seal_as(kind, content, name)))
-}
-
-// Reads the object of a name from the store, and adds it to the survey.
-fn read_and_note<S: LooseFiles>(
-    alloc: Global,
-    files: &mut S,
-    survey: &mut Survey,
-    name: Name,
-) -> Result<Option<Sealed>, StoreFault>
-    requires { AreKnown (S.honest files.old) (S.contents files.old) survey.old }
-    ensures reads { IsTrue (S.honest files.old) → ReadsTo (S.contents files.old) name result }
-    ensures kept { IsTrue (S.honest files.old) → S.contents files.new ≡ S.contents files.old }
-    ensures known { AreKnown (S.honest files.new) (S.contents files.new) survey.new }
-    ensures named { IfOk result (λ found. IfSome found (λ sealed. object_name sealed ≡ name)) }
-    ensures honest { S.honest files.new ≡ S.honest files.old }
-    ensures cause { CountsCachedRead (S.failures files.old) (S.failures files.new) result }
-{
-    match read_checked(alloc, files, name) {
-        Ok(Some(sealed)) => match survey.note(&sealed) {
-            Ok(()) => Ok(Some(sealed)),
-            Err(_) => Err(StoreFault::Memory),
-        },
-        Ok(None) => Ok(None),
-        Err(fault) => Err(fault),
-    }
-}
-
-// Whether the survey has the object of this name with this kind and length.
-fn has(survey: &Survey, name: Name, kind: Kind, length: u64) -> bool
-    ensures { result ≡ true → map.get survey.now name ≡ Some (kind, length) }
-{
-    match survey.get(name) {
-        Some(found) => found.0 == kind && found.1 == length,
-        None => false,
-    }
 }

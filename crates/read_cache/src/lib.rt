@@ -4,7 +4,6 @@
 
 mod cached_store;
 mod read_cache;
-mod survey;
 
 pub use crate::cached_store::CachedStore;
 pub use crate::read_cache::{LARGEST, MOST, ReadCache};

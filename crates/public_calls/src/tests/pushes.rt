@@ -63,7 +63,7 @@ fn judged(
 ) -> Result<&'static str, AllocError> {
     let objects = filled(alloc, kept)?;
     let brief = sent(alloc, objects.as_slice(), letters, reference)?;
-    let verdict = judge(alloc, kept, &Ok(brief), &Refs::new(alloc), limit);
+    let verdict = judge(alloc, kept, &[], &Ok(brief), &Refs::new(alloc), limit);
     Ok(told(&verdict))
 }
 
@@ -129,6 +129,7 @@ fn a_push_fails_where_a_read_does_and_not_for_a_stream_that_is_wrong(
     let verdict = judge(
         alloc,
         &mut kept,
+        &[],
         &Err(StreamFault::TooMany),
         &Refs::new(alloc),
         USED,

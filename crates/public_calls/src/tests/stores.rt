@@ -13,13 +13,13 @@ fn keeps(alloc: Global, files: &mut Memory) -> Result<bool, Fail> {
     let file = file_of(alloc, &sealed)?;
     files.set(alloc, hello(), file.as_slice())?;
     let is_set = file.as_slice() == b"blob 6\0hello\n".as_slice() && files.lend(hello()).is_none();
-    files.put_object(alloc, sealed)?;
+    let is_kept = files.put_object(alloc, sealed)?.is_none();
     let is_lent = match files.lend(hello()) {
         Some((kind, bytes)) => kind == Kind::Blob && bytes == b"hello\n".as_slice(),
         None => false,
     };
     let read = read_checked(alloc, files, hello())?.ok_or("no object")?;
-    Ok(is_set && is_lent && read.bytes() == b"hello\n".as_slice())
+    Ok(is_set && is_kept && is_lent && read.bytes() == b"hello\n".as_slice())
 }
 
 // Whether a checked read returns this fault.

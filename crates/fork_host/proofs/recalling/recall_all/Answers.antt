@@ -1,10 +1,10 @@
-use Rattle.std.proofs.Common.{arith, ap, refl, subst, ◌∙◌}
+use Rattle.std.proofs.Common.{arith, ap, refl, subst, sym, ◌∙◌}
 use Rattle.std.specs.FinMap as map
 use Rattle.fork_reach.specs.Objects.{with_objects}
 use Rattle.fork_ledger.specs.Private.{with_discarded, with_published}
 use Rattle.fork_host.specs.Handle.{both_by}
 use Rattle.fork_host.specs.Own.{ChangesTenant, MadeBy}
-use Rattle.fork_host.specs.Read.{RecallsRead}
+use Rattle.fork_host.specs.Read.{EachRead, RecallsRead}
 use Rattle.fork_host.proofs.HandleLemmas.{of_first, same_own, same_then}
 use Rattle.fork_host.proofs.OwnLemmas.{became, changes_still, discarded, here_changed, published, stages_none}
 use Rattle.fork_host.proofs.RecallLemmas.{came_all, came_none, came_read}
@@ -32,6 +32,14 @@ loop-name-preserved g c =
           (subst (λ r. RecallsRead old.vault.now.honest r.now c.name-item.result old.vault.now.files old.vault.now.tenants new.vault.now.tenants (map.get c.args.readings.now c.name-item.result)) before.same.tenant c.in-Ok.ensures.recalls) before.so_far;
       failures = c.recall_read.ensures.failures ∙ before.failures;
     }
+
+pub recall_read-requires : goal.recall_read-requires
+recall_read-requires g c =
+    let before = c.loop-name.invariant in
+    let first = c.args.own.now.vault.now in
+    let mid = c.loop-name.own.vault.now in
+    let readings = c.args.readings.now in
+    subst (λ h. EachRead h mid.files readings) (sym before.so_far.stages.honest) (subst (λ f. EachRead first.honest f readings) (sym before.so_far.files) c.requires.read.each)
 
 pub discard-requires : goal.discard-requires
 discard-requires g c =

@@ -8,7 +8,8 @@ use Rattle.fork_ledger.specs.Private.{Private}
 use Rattle.fork_ledger.proofs.AllStagedLemmas.{all_staged_seen}
 use Rattle.looks.proofs.GrowthLemmas.{grows_same, grows_then}
 use Rattle.fork_host.specs.Bounds.{IsBounded}
-use Rattle.fork_host.specs.Handle.{visible_by}
+use Rattle.fork_push.specs.Here.{AreThere}
+use Rattle.fork_host.specs.Handle.{both_by, visible_by}
 use Rattle.fork_host.specs.Own.{IsOwn, staged_in, visible_in}
 use Rattle.fork_host.specs.Pushed.{view_of}
 use Rattle.fork_host.specs.Rows.{vault_told}
@@ -48,9 +49,10 @@ settle-reply-requires g c =
     let first = c.args.own.now in
     let staged = c.stage_all.new.own in
     let sent = c.args.body.objects.items in
-    let seen = seen_kept first.vault.now staged.vault.now first.tenant.now (with_all_staged sent) (all_staged_seen sent) c.in_default-stage_all.ensures.ok in
+    let seen = seen_kept first.vault.now staged.vault.now first.tenant.now (with_all_staged sent) (all_staged_seen sent) c.in-Ok-stage_all.ensures.ok in
     record {
-      ready = ready_still first staged c.args.limit c.in_default-stage_all.ensures.same c.stage_all.ensures.own seen c.requires.ready;
+      ready = ready_still first staged c.args.limit c.in-Ok-stage_all.ensures.same c.stage_all.ensures.own seen c.requires.ready;
+      here = λ h. subst (AreThere (both_by staged)) (sym c.as_slice-2.ensures.value) (c.in-Ok-stage_all.ensures.back (sym c.in-Ok-stage_all.ensures.ok.honest ∙ h));
       there = c.requires.there;
     }
 
@@ -59,7 +61,7 @@ discard-requires g c =
     let first = c.args.own.now in
     let staged = c.stage_all.new.own in
     let mid = c.settle-reply.new.own in
-    let same = same_then first staged mid c.in_default-stage_all.ensures.same c.settle-reply.ensures.same in
+    let same = same_then first staged mid c.in-Ok-stage_all.ensures.same c.settle-reply.ensures.same in
     record {
       there = ap (λ r. contains_key mid.vault.now.tenants r.now) same.tenant ∙ c.settle-reply.ensures.own.there first.tenant.now ∙ c.stage_all.ensures.own.there first.tenant.now ∙ c.requires.ready.there;
     }
@@ -71,8 +73,8 @@ returns-clause-row g c rest was here honest =
     let mid = c.settle-reply.new.own in
     let new = c.discard.new.own in
     let sent = c.args.body.objects.items in
-    let changes = c.in_default-stage_all.ensures.ok in
-    let same = c.in_default-stage_all.ensures.same in
+    let changes = c.in-Ok-stage_all.ensures.ok in
+    let same = c.in-Ok-stage_all.ensures.same in
     let seen = seen_kept first.vault.now staged.vault.now first.tenant.now (with_all_staged sent) (all_staged_seen sent) changes in
     let named = c.in-Ok.ensures ∙ ap (map_list object_name) c.as_slice.ensures.value in
     let still : visible_in new.vault.now first.tenant.now ≡ visible_in mid.vault.now first.tenant.now =
@@ -90,8 +92,8 @@ returns-clause-safe g c rest =
     let new = c.discard.new.own in
     let sent = c.args.body.objects.items in
     let repositories = c.args.repositories.now in
-    let changes = c.in_default-stage_all.ensures.ok in
-    let same = c.in_default-stage_all.ensures.same in
+    let changes = c.in-Ok-stage_all.ensures.ok in
+    let same = c.in-Ok-stage_all.ensures.same in
     let seen = seen_kept first.vault.now staged.vault.now first.tenant.now (with_all_staged sent) (all_staged_seen sent) changes in
     let still : visible_in new.vault.now first.tenant.now ≡ visible_in mid.vault.now first.tenant.now =
     of_first first mid (λ t. visible_in new.vault.now t ≡ visible_in mid.vault.now t) (same_then first staged mid same c.settle-reply.ensures.same) c.discard.ensures.still in
@@ -100,7 +102,7 @@ returns-clause-safe g c rest =
     (ap (λ r. visible_in mid.vault.now r.now) same.tenant ∙ sym still)
     (safe_from (IsBounded sent first.vault.now new.vault.now) (IsBounded sent staged.vault.now mid.vault.now) repositories (visible_by first) (visible_by staged) rest c.args.limit reply _
     (ap (λ r. measures_of (visible_in staged.vault.now r.now)) same.tenant ∙ seen.shape)
-    (λ bounded. bounded_left sent first.vault.now mid.vault.now new.vault.now reply (bounded_after sent first.vault.now staged.vault.now mid.vault.now reply c.in_default-stage_all.ensures.gains bounded) c.discard.ensures.store)
+    (λ bounded. bounded_left sent first.vault.now mid.vault.now new.vault.now reply (bounded_after sent first.vault.now staged.vault.now mid.vault.now reply c.in-Ok-stage_all.ensures.gains bounded) c.discard.ensures.store)
     (c.settle-reply.ensures.safe rest sent))
 
 pub returns-clause-own : goal.returns-clause-own
@@ -109,7 +111,7 @@ returns-clause-own g c =
     let staged = c.stage_all.new.own in
     let mid = c.settle-reply.new.own in
     let new = c.discard.new.own in
-    let same = c.in_default-stage_all.ensures.same in
+    let same = c.in-Ok-stage_all.ensures.same in
     let both = same_then first staged mid same c.settle-reply.ensures.same in
     let t = first.tenant.now in
     let names = sent_names c.args.body.objects.items in

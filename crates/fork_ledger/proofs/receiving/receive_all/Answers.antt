@@ -1,5 +1,6 @@
 use Rattle.std.proofs.Common.{rules, ◌≡◌, [], ◌∷◌, ◌++◌, ap, map, refl, subst, sym, true, ◌∙◌}
-use Rattle.std.proofs.lemmas.List.Elements.{All-nil}
+use Rattle.std.specs.Prelude.{Contains}
+use Rattle.std.proofs.lemmas.List.Elements.{All-nil, Contains-append_left}
 use Rattle.git_name.specs.Object.{object_name}
 use Rattle.git_name.specs.Same.{is_listed}
 use Rattle.looks.proofs.GrowthLemmas.{grows_none}
@@ -8,7 +9,7 @@ use Rattle.object_table.specs.AllStaged.{AreListed}
 use Rattle.object_table.specs.Told.{entry_of}
 use Rattle.object_table.specs.declared.entry.Entry.{Entry}
 use Rattle.fork_ledger.specs.AllStaged.{StoresAmong}
-use Rattle.fork_ledger.proofs.ReceivedLemmas.{among_front, grows_on, listed_more, meets_among, receives_more, receives_none, regroup, told_more}
+use Rattle.fork_ledger.proofs.ReceivedLemmas.{among_front, grows_on, kept_more, listed_more, meets_among, receives_more, receives_none, regroup, told_more}
 use Rattle.fork_ledger.proofs.receiving.receive_all.Goals as goal
 
 pub loop-sealed-init : goal.loop-sealed-init
@@ -23,6 +24,7 @@ loop-sealed-init g c = (
     receives = λ h. receives_none c.args.files.now.contents (places_of c.args.holdings.now.catalogue);
     honest = refl;
     failures = refl;
+    kept = λ object is. search rules;
   },
 )
 
@@ -62,7 +64,7 @@ loop-sealed-preserved g c =
     let start = places_of c.args.holdings.now.catalogue in
     let old = places_of c.loop-sealed.holdings.catalogue in
     let last = places_of c.receive.new.holdings.catalogue in
-    let told = c.in_default.ensures in (
+    let told = c.in-Ok.ensures in (
       front ++ object ∷ [],
       record {
         order = before.order ∙ ap (λ xs. front ++ xs) left ∙ sym (regroup front object c.next.new.self.rest.items);
@@ -75,5 +77,12 @@ loop-sealed-preserved g c =
             receives_more front object first.contents mid.contents new.contents start old last (before.receives h) (told.whole was) (told.stands was) (told.alone was) (told.covers was) (told.exact was);
         honest = told.honest ∙ before.honest;
         failures = told.cause ∙ before.failures;
+        kept = λ other is. kept_more c.loop-sealed.kept.items front object c.in-Ok.back other (before.kept other) told.back (c.keep.ensures other is);
       },
     )
+
+pub returns-clause-back : goal.returns-clause-back
+returns-clause-back g c =
+    let front = c.loop-sealed.invariant.0 in
+    let before = c.loop-sealed.invariant.1 in
+    λ object is. subst (λ xs. Contains xs object) (sym before.order) (Contains-append_left front c.loop-sealed.sealed-iterator.rest.items object (before.kept object is))

@@ -1,4 +1,5 @@
 use Rattle.std.proofs.Common.{◌≡◌, ◌++◌, IsTrue, List, map}
+use Rattle.std.specs.Prelude.{Contains}
 use Rattle.git_name.specs.Object.{Object, object_name}
 use Rattle.looks.specs.Growth.{GrowsAmong}
 use Rattle.object_table.specs.Rows.{places_of}
@@ -7,7 +8,7 @@ use Rattle.object_table.specs.Told.{entry_of}
 use Rattle.fork_ledger.specs.AllStaged.{Receives}
 use Rattle.fork_ledger.proofs.receiving.receive_all.Given as goal
 
--- the objects so far were received, the others are left, and no ledger changed
+-- the objects so far were received, the others are left, no ledger changed, and what is kept was received
 abbrev pub invariant-loop-sealed : goal.invariant-loop-sealed
 invariant-loop-sealed g l =
     (front : List Object)
@@ -20,4 +21,5 @@ invariant-loop-sealed g l =
       receives : IsTrue l.fn.files.honest → Receives front l.fn.files.contents l.files.contents (places_of l.fn.holdings.catalogue) (places_of l.holdings.catalogue);
       honest : l.files.honest ≡ l.fn.files.honest;
       failures : l.files.failures ≡ l.fn.files.failures;
+      kept : (object : Object) → Contains l.kept.items object → Contains front object;
     }

@@ -1,4 +1,4 @@
-use Rattle.std.proofs.Common.{◌≡◌, ℕ, true, List, ap, subst, sym, ◌∙◌}
+use Rattle.std.proofs.Common.{◌≡◌, ℕ, true, List, subst, sym, ◌∙◌}
 use Rattle.std.specs.FinMap.{contains_key}
 use Rattle.std.specs.HashSet.{contains}
 use Rattle.std.specs.Option.{IfSome}

@@ -1,4 +1,3 @@
-use Rattle.std.proofs.Common.{IsTrue, sym, ap, subst, ◌∙◌}
 use Rattle.std.proofs.lemmas.Result.{IfOk-weaker}
 use Rattle.fork_query.proofs.fetching.records_of.Goals as goal
 

@@ -1,4 +1,4 @@
-use Rattle.std.proofs.Common.{◌≡◌, ℕ, List, IfSome, refl, subst, ◌∙◌}
+use Rattle.std.proofs.Common.{◌≡◌, IfSome, subst, ◌∙◌}
 use Rattle.std.specs.List.{AllByRecursion, flat_map}
 use Rattle.fork_query.specs.Lent.{HasOwnName, IsLent, lent_names, record_lent}
 use Rattle.fork_query.proofs.LentLemmas.{lent_are_records, lent_is_sent}

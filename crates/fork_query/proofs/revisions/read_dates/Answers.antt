@@ -1,4 +1,4 @@
-use Rattle.std.proofs.Common.{◌≡◌, ℕ, List, IsTrue, sym, ap, subst, ◌∙◌, map}
+use Rattle.std.proofs.Common.{◌≡◌, ℕ, List, IsTrue, sym, ap, subst, ◌∙◌}
 use Rattle.std.specs.HashSet.{contains}
 use Rattle.std.specs.FinMap.{retain_keys}
 use Rattle.git_name.specs.Maps.{map_values}

@@ -1,5 +1,5 @@
 use Rattle.std.proofs.Common.{◌≡◌, ◌&&◌, arith, not}
-use Rattle.number_sets.specs.Numbers.{has}
+use Rattle.number_links.specs.Numbers.{has}
 use Rattle.number_links.specs.Descent.{IsKey, waits}
 use Rattle.number_links.specs.Facts.{Facts}
 use Rattle.number_links.specs.Generations.{generation}

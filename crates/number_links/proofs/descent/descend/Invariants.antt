@@ -1,4 +1,4 @@
-use Rattle.number_sets.specs.Numbers.{has}
+use Rattle.number_links.specs.Numbers.{has}
 use Rattle.number_links.specs.Descent.{waits}
 use Rattle.number_links.specs.Facts.{goes_on}
 use Rattle.number_links.specs.declared.along.Along.TheVariants.{Parents}

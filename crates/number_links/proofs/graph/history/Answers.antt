@@ -1,6 +1,6 @@
 use Rattle.std.proofs.Common.{◌≡◌, ℕ, true, inl, inr}
 use Rattle.std.proofs.lemmas.Result.{IfOk-weaker}
-use Rattle.number_sets.specs.Numbers.{has}
+use Rattle.number_links.specs.Numbers.{has}
 use Rattle.number_links.specs.Facts.{goes_on}
 use Rattle.number_links.specs.Known.{RestsOrIsKnown}
 use Rattle.number_links.specs.declared.along.Along.TheVariants.{Parents}

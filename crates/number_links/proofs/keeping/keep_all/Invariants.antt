@@ -1,5 +1,5 @@
 use Rattle.std.proofs.Common.{◌≡◌, ◌⊎◌, ℕ, List, [], Some, All, true, is_some}
-use Rattle.number_sets.specs.Numbers.{has}
+use Rattle.number_links.specs.Numbers.{has}
 use Rattle.number_links.specs.Kept.{IsKept}
 use Rattle.number_links.specs.Known.{known}
 use Rattle.number_links.proofs.keeping.keep_all.Given as goal

@@ -1,5 +1,5 @@
 use Rattle.std.proofs.Common.{sym, rules, ◌∙◌}
-use Rattle.number_sets.specs.Numbers.{has}
+use Rattle.number_links.specs.Numbers.{has}
 use Rattle.number_links.proofs.KeptLemmas.{all_more, kept_made}
 use Rattle.number_links.proofs.OptionLemmas.{some_is}
 use Rattle.number_links.proofs.keeping.keep_one.Goals as goal

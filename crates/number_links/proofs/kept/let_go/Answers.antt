@@ -1,6 +1,6 @@
 use Rattle.std.proofs.Common.{not, rules}
 use Rattle.std.proofs.lemmas.Fn.{filter_same}
-use Rattle.number_sets.specs.Numbers.{has}
+use Rattle.number_links.specs.Numbers.{has}
 use Rattle.number_links.specs.declared.kept.Kept.{Kept}
 use Rattle.number_links.proofs.KeptLemmas.{all_without}
 use Rattle.number_links.proofs.kept.let_go.Goals as goal

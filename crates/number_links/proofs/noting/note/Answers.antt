@@ -1,6 +1,6 @@
 use Rattle.std.proofs.Common.{◌||◌, ◌∙◌, ap, sym, nat_eq, not, arith}
 use Rattle.std.proofs.lemmas.Bool.{and_from, and_left, and_right, not_from_false, not_from_true}
-use Rattle.number_sets.specs.Numbers.{has}
+use Rattle.number_links.specs.Numbers.{has}
 use Rattle.number_links.specs.Reach.{past}
 use Rattle.number_links.proofs.SeeingLemmas.{sees_absent, sees_known, sees_new}
 use Rattle.number_links.proofs.noting.note.Goals as goal

@@ -1,6 +1,6 @@
 use Rattle.std.proofs.Common.{◌≡◌, ◌++◌, ◌+◌, ◌∷◌, [], take, get_or, subst, sym, arith}
 use Rattle.std.proofs.lemmas.List.{take_more}
-use Rattle.number_sets.specs.Numbers.{has}
+use Rattle.number_links.specs.Numbers.{has}
 use Rattle.number_links.specs.Reach.{past}
 use Rattle.number_links.specs.Seeing.{Sees}
 use Rattle.number_links.proofs.SeeingLemmas.{sees_both}

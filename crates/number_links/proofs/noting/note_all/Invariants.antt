@@ -1,5 +1,5 @@
 use Rattle.std.proofs.Common.{take}
-use Rattle.number_sets.specs.Numbers.{has}
+use Rattle.number_links.specs.Numbers.{has}
 use Rattle.number_links.specs.Reach.{past}
 use Rattle.number_links.specs.Seeing.{Sees}
 use Rattle.number_links.proofs.noting.note_all.Given as goal

@@ -1,6 +1,6 @@
 use Rattle.std.proofs.Common.{◌≡◌, ◌⊎◌, ◌<◌, ◌-◌, ℕ, List, [], Some, None, true, is_some}
 use Rattle.std.specs.List.{Contains}
-use Rattle.number_sets.specs.Numbers.{has}
+use Rattle.number_links.specs.Numbers.{has}
 use Rattle.number_links.specs.Known.{known, linked}
 use Rattle.number_links.proofs.settling.settle.Given as goal
 

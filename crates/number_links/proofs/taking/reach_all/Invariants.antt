@@ -1,5 +1,5 @@
 use Rattle.std.proofs.Common.{◌+◌, length}
-use Rattle.number_sets.specs.Numbers.{has}
+use Rattle.number_links.specs.Numbers.{has}
 use Rattle.number_links.specs.Known.{RestsOrIsKnown, linked}
 use Rattle.number_links.specs.Seeing.{unseen}
 use Rattle.number_links.proofs.WalkLemmas.{Walks}

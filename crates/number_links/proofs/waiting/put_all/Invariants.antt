@@ -1,5 +1,5 @@
 use Rattle.std.proofs.Common.{take}
-use Rattle.number_sets.specs.Numbers.{has}
+use Rattle.number_links.specs.Numbers.{has}
 use Rattle.number_links.specs.Descent.{Puts, waits}
 use Rattle.number_links.proofs.waiting.put_all.Given as goal
 

@@ -1,6 +1,6 @@
 use Rattle.std.proofs.Common.{◌≡◌, ◌∙◌, ap, subst, sym}
 use Rattle.std.proofs.lemmas.Result.{on_ok_weaker}
-use Rattle.number_sets.specs.Numbers.{has}
+use Rattle.number_links.specs.Numbers.{has}
 use Rattle.number_links.specs.Descent.{IsParent, SettlesKey, waits}
 use Rattle.number_links.specs.Facts.{Facts, goes_on}
 use Rattle.number_links.specs.Generations.{generation}

@@ -1,5 +1,5 @@
 use Rattle.std.proofs.Common.{◌+◌, length}
-use Rattle.number_sets.specs.Numbers.{has}
+use Rattle.number_links.specs.Numbers.{has}
 use Rattle.number_links.specs.Facts.{goes_on}
 use Rattle.number_links.specs.Known.{RestsOrIsKnown}
 use Rattle.number_links.specs.Reach.{past}

@@ -1,5 +1,5 @@
 use Rattle.std.proofs.Common.{sym, ◌∙◌, rules}
-use Rattle.number_sets.specs.Numbers.{has}
+use Rattle.number_links.specs.Numbers.{has}
 use Rattle.number_links.specs.declared.along.Along.TheVariants.{Parents}
 use Rattle.object_table.proofs.WalkedLemmas.{best_all, best_known, best_only}
 use Rattle.object_table.proofs.bases.base_names.Goals as goal

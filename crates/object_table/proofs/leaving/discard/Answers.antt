@@ -3,8 +3,8 @@ use Rattle.std.specs.FinMap.{get}
 use Rattle.std.specs.Option.{option_and_then}
 use Rattle.std.proofs.lemmas.Bool.{ltb-false, ltb-true}
 use Rattle.git_name.specs.Same.{same_name}
-use Rattle.number_sets.specs.Numbers.{has, has_room}
-use Rattle.number_sets.proofs.PageLemmas.{has_its_room}
+use Rattle.number_links.specs.Numbers.{has, has_room}
+use Rattle.number_links.proofs.PageLemmas.{has_its_room}
 use Rattle.object_table.specs.Views.{word_by, words_of}
 use Rattle.object_table.specs.Words.{unstaged_word}
 use Rattle.object_table.proofs.LeavingLemmas.{leaving_end, leaving_more, none_at_all, unstaged_by, unstaged_idle}

@@ -1,5 +1,5 @@
 use Rattle.std.proofs.Common.{◌≡◌, ◌<◌, ◌≤◌, ◌-◌, ℕ, false}
-use Rattle.number_sets.specs.Numbers.{has}
+use Rattle.number_links.specs.Numbers.{has}
 use Rattle.object_table.specs.Words.{unstaged_word}
 use Rattle.object_table.proofs.LeavingLemmas.{IsLeaving}
 use Rattle.object_table.proofs.leaving.discard.Given as goal

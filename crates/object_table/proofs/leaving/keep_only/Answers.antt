@@ -2,8 +2,8 @@ use Rattle.std.proofs.Common.{sym, ap, ◌∙◌, arith, cond}
 use Rattle.std.specs.FinMap.{get}
 use Rattle.std.specs.Option.{option_and_then}
 use Rattle.git_name.specs.Same.{same_name}
-use Rattle.number_sets.specs.Numbers.{has, has_room}
-use Rattle.number_sets.proofs.PageLemmas.{has_its_room}
+use Rattle.number_links.specs.Numbers.{has, has_room}
+use Rattle.number_links.proofs.PageLemmas.{has_its_room}
 use Rattle.object_table.specs.Views.{word_by, words_of}
 use Rattle.object_table.specs.Words.{kept_word}
 use Rattle.object_table.proofs.LeavingLemmas.{kept_by, kept_idle, leaving_end, leaving_more}

@@ -1,7 +1,7 @@
 use Rattle.std.proofs.Common.{◌≡◌, ◌⊎◌, ℕ, Some, true, subst}
 use Rattle.number_links.specs.Facts.{Learned, learned, nothing}
 use Rattle.number_links.specs.declared.along.Along.TheVariants.{Links}
-use Rattle.number_sets.specs.Numbers.{Pages, has}
+use Rattle.number_links.specs.Numbers.{Pages, has}
 use Rattle.object_table.specs.Links.{rests_in}
 use Rattle.object_table.proofs.WalkedLemmas.{kept_links, kept_named}
 use Rattle.object_table.proofs.linking.keep_names.Goals as goal

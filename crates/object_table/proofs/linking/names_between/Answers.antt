@@ -1,6 +1,6 @@
 use Rattle.std.proofs.Common.{sym, subst, ◌∙◌, rules}
 use Rattle.std.specs.Prelude.{Contains}
-use Rattle.number_sets.specs.Numbers.{has}
+use Rattle.number_links.specs.Numbers.{has}
 use Rattle.object_table.proofs.WalkedLemmas.{between_all, between_known, between_only}
 use Rattle.number_links.specs.declared.along.Along.TheVariants.{Links}
 use Rattle.object_table.proofs.linking.names_between.Goals as goal

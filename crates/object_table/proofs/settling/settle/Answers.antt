@@ -1,5 +1,5 @@
 use Rattle.std.proofs.Common.{◌≤◌, ◌+◌, ◌||◌, ◌∙◌, sym, ap, subst, refl, arith, cond}
-use Rattle.number_sets.specs.Numbers.{has}
+use Rattle.number_links.specs.Numbers.{has}
 use Rattle.object_table.specs.Views.{holds}
 use Rattle.object_table.proofs.SettlingLemmas.{holders_fit, holders_some, is_one, moves, seen_within, size_fits, total_small, use_within, used_small, word_at}
 use Rattle.object_table.proofs.settling.settle.Goals as goal

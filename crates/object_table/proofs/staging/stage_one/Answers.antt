@@ -1,5 +1,5 @@
 use Rattle.std.proofs.Common.{◌≡◌, ◌∙◌, Some, sym, ap}
-use Rattle.number_sets.specs.Numbers.{has}
+use Rattle.number_links.specs.Numbers.{has}
 use Rattle.object_table.specs.Rows.{row_in}
 use Rattle.object_table.specs.Views.{word_by}
 use Rattle.object_table.proofs.SettlingLemmas.{word_before}

@@ -4,14 +4,12 @@ use Rattle.std.proofs.lemmas.List.{length-map, take_all}
 use Rattle.std.proofs.lemmas.Result.{err_from_is_err_and}
 use Rattle.std.specs.FinMap as map
 use Rattle.loose_store.specs.Files.{Files}
-use Rattle.fork_ledger.specs.Store.{IsOver}
 use Rattle.state_text.specs.Adding.{AreBefore}
 use Rattle.state_text.specs.States.{States, TenantState}
 use Rattle.state_text.proofs.BehindLemmas.{map_behind}
 use Rattle.fork_model.specs.declared.limits.TheConstants.{MAX_TENANTS}
 use Rattle.fork_host.specs.Refilled.{IsWhy, with_judged}
-use Rattle.fork_host.specs.Restored.{IsShownAgain}
-use Rattle.fork_host.specs.Shown.{HostState, Trusted, world_of}
+use Rattle.fork_host.specs.Shown.{HostState}
 use Rattle.fork_host.specs.declared.later.Later.{Later}
 use Rattle.fork_host.proofs.GatherLemmas.{next_by, parts_at, taken_more}
 use Rattle.fork_host.proofs.KeepingLemmas.{room_for}
@@ -142,18 +140,15 @@ returns-in-Some-told-clause-refused g c = λ h.
     told_late files c.args.states c.loop-state.host c.loop-state.later c.in-Some-told.error going (sym c.told.ensures ∙ c.in-Some-told.is)
 
 pub returns-clause-trusted : goal.returns-clause-trusted
-returns-clause-trusted g c = λ h. subst Trusted (sym c.end_survey.ensures) (c.loop-state.invariant.trusted h)
+returns-clause-trusted g c = λ h. c.loop-state.invariant.trusted h
 
 pub returns-clause-shown : goal.returns-clause-shown
 returns-clause-shown g c = λ h.
     let files = g.S.LooseFiles.contents c.args.files in
     let going = all_of files c.as_slice-state-items.result.now c.args.states c.loop-state.state-index c.loop-state.host c.loop-state.later c.as_slice-state-items.ensures.tenants (omega arith) (c.loop-state.invariant.going h) in
-    subst (λ (s : HostState). IsShownAgain files c.args.states (world_of s)) (sym c.end_survey.ensures)
-    (shown_late files c.args.states c.loop-state.host c.loop-state.later going (sym c.told.ensures ∙ c.in-None.is))
+    shown_late files c.args.states c.loop-state.host c.loop-state.later going (sym c.told.ensures ∙ c.in-None.is)
 
 pub returns-clause-store : goal.returns-clause-store
 returns-clause-store g c =
-    let files = g.S.LooseFiles.contents c.args.files in
     let before = c.loop-state.invariant in
-    subst (λ (s : HostState). IsOver files (g.S.LooseFiles.honest c.args.files) (g.S.LooseFiles.failures c.args.files) s.vault) (sym c.end_survey.ensures)
-    (record { files = λ h. (before.going h).same; honest = before.honest; failures = before.failures })
+    record { files = λ h. (before.going h).same; honest = before.honest; failures = before.failures }

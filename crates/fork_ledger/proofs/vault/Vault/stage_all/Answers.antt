@@ -14,12 +14,11 @@ use Rattle.fork_ledger.specs.Kept.{IsExact}
 use Rattle.fork_ledger.specs.Shown.{tenants_of}
 use Rattle.fork_ledger.specs.declared.fault.VaultFault.TheVariants.{Collision}
 use Rattle.fork_ledger.specs.Store.{CountsFault, IsStored, MeetsHeld}
-use Rattle.fork_ledger.specs.Tenants.{VaultState, at_tenant, shape_of}
+use Rattle.fork_ledger.specs.Tenants.{VaultState, at_tenant, private_of, shape_of}
 use Rattle.fork_ledger.proofs.AllStagedLemmas.{all_staged_shape, all_staged_stored, all_staged_tenants, keeps_whole, none_damaged}
-use Rattle.fork_ledger.proofs.CameLemmas.{all_came}
+use Rattle.fork_ledger.proofs.CameLemmas.{all_back, all_came}
 use Rattle.fork_ledger.proofs.ClashLemmas.{held_refuses, vault_still}
 use Rattle.fork_ledger.proofs.KeepingLemmas.{stored_keeps, tenants_keep}
-use Rattle.fork_ledger.proofs.LedLemmas.{led_stays}
 use Rattle.fork_ledger.proofs.ShownShapes.{shape_any}
 use Rattle.fork_ledger.proofs.StagedLemmas.{ok_both}
 use Rattle.fork_ledger.proofs.StoreLemmas.{undamaged_in}
@@ -42,7 +41,7 @@ invariant_of-self g c = λ h.
             (λ same. subst (λ x. IsStored (tenants_of new x) new) (sym {b = m} same) (stored_keeps m old new keeps kept.stored));
         covers = told.covers was kept.covers;
       },
-      led_stays c.self.inside.holdings.links c.stage_all_whole.new.holdings.links old new told.links (told.stands was) (c.self.invariant was).1,
+      told.led was (c.self.invariant was).1,
     )
 
 pub returns-clause-ok : goal.returns-clause-ok
@@ -84,6 +83,14 @@ returns-clause-came g c = λ h there.
     let is = ap (tenants_of new) both.1 ∙ all_staged_tenants old new m t objects (keeps_whole m old new (c.self.invariant was).0.stored (told.stands was)) both.0.whole in
     all_came new (tenants_of old m) (tenants_of new m2) t objects here is stored both.0.whole)
     (ok_both _ _ c.stage_all_whole.result (told.receives was) told.ok)
+
+pub returns-clause-back : goal.returns-clause-back
+returns-clause-back g c = λ h there.
+    let t = c.args.tenant.now in
+    let new = c.stage_all_whole.new.files.contents in
+    let was = ap (λ s. s.honest) c.self.view_is ∙ h in
+    let own = private_of (tenants_of new c.stage_all_whole.new.holdings.ledgers) t in
+    all_back (λ back. back.items) own new c.args.objects.items c.stage_all_whole.result (λ name object holds. (invariant_of-self g c (c.stage_all_whole.ensures.honest ∙ was)).0.stored t name object holds) (returns-clause-came g c h there) c.stage_all_whole.ensures.back
 
 pub returns-clause-exact : goal.returns-clause-exact
 returns-clause-exact g c = λ h.

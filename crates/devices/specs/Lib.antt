@@ -1,0 +1,4 @@
+pub mod Crash
+pub mod Device
+pub mod Note
+pub mod Runs

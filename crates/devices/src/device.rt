@@ -1,0 +1,87 @@
+ghost use Rattle.std.specs.Prelude.{◌≡◌, Bool, IsTrue, IfOk, map as each, option_map};
+ghost use Rattle.std.specs.FinMap as map;
+ghost use Rattle.devices.specs.Device.{Past, Does, Wrote, Added, Moved, Removed, SyncedFile, SyncedFolder, files_of, names_in_folder, within};
+
+use std::alloc::{AllocError, AllocFailed, Global};
+use thiserror::Error;
+
+/// Why a call of a device failed.
+#[derive(Clone, Copy, Debug, PartialEq, Eq, Error)]
+pub enum DeviceFault {
+    #[error("the device failed")]
+    Device,
+    #[error("the file could not be opened")]
+    Unopened,
+    #[error("there is no such folder")]
+    Missing,
+    #[error("no memory")]
+    Memory,
+}
+
+impl From<AllocError> for DeviceFault {
+    fn from(_: AllocError) -> Self {
+        DeviceFault::Memory
+    }
+}
+
+impl<T: Drop> From<AllocFailed<T>> for DeviceFault {
+    fn from(_: AllocFailed<T>) -> Self {
+        DeviceFault::Memory
+    }
+}
+
+/// Files by their paths, which are relative to the device's folder. A folder is written with a slash at its end, and the
+/// device's own as nothing. A folder that is missing is created when a file is put into it.
+pub trait Device {
+    /// What it began with, and what was done to it since.
+    ghost past: { Self → Past };
+
+    /// Whether the calls report and change the files as their clauses say.
+    ghost honest: { Self → Bool };
+
+    /// The bytes of a file, if it exists. If there are more than `most`, none of them is read.
+    fn read(&mut self, alloc: Global, path: &str, most: u64) -> Result<Option<Vec<u8>>, DeviceFault>
+        ensures found { IsTrue (honest self.old) → IfOk result (λ found. option_map (λ bytes. bytes.items) found ≡ option_map (within most) (map.get (files_of (past self.old)) path.now)) }
+        ensures kept { IsTrue (honest self.old) → past self.new ≡ past self.old }
+        ensures honest { honest self.new ≡ honest self.old };
+
+    /// Writes a whole file, replacing one at this path. Call it only if no change of the replaced file's path is unsynced: a
+    /// system may empty that file in place of making a new one.
+    fn write(&mut self, path: &str, bytes: &[u8]) -> Result<(), DeviceFault>
+        ensures effect { IsTrue (honest self.old) → Does (Wrote path.now bytes.now) (past self.old) (past self.new) result }
+        ensures honest { honest self.new ≡ honest self.old };
+
+    /// Writes after the end of a file, and creates it if it does not exist.
+    fn append(&mut self, path: &str, bytes: &[u8]) -> Result<(), DeviceFault>
+        ensures effect { IsTrue (honest self.old) → Does (Added path.now bytes.now) (past self.old) (past self.new) result }
+        ensures honest { honest self.new ≡ honest self.old };
+
+    /// Renames a file, replacing one of that name. Returns whether there was a file to rename. If there was none, it changes
+    /// nothing.
+    fn rename(&mut self, from: &str, to: &str) -> Result<bool, DeviceFault>
+        ensures there { IsTrue (honest self.old) → IfOk result (λ was. was ≡ map.contains_key (files_of (past self.old)) from.now) }
+        ensures effect { IsTrue (honest self.old) → Does (Moved from.now to.now) (past self.old) (past self.new) result }
+        ensures honest { honest self.new ≡ honest self.old };
+
+    /// Removes a file. If there is none, it succeeds and changes nothing.
+    fn remove(&mut self, path: &str) -> Result<(), DeviceFault>
+        ensures effect { IsTrue (honest self.old) → Does (Removed path.now) (past self.old) (past self.new) result }
+        ensures honest { honest self.new ≡ honest self.old };
+
+    /// The names of the files right in a folder, ascending bytewise.
+    fn list(&mut self, alloc: Global, folder: &str) -> Result<Vec<Vec<u8>>, DeviceFault>
+        ensures found { IsTrue (honest self.old) → IfOk result (λ names. each (λ name. name.items) names.items ≡ names_in_folder folder.now (map.keys (files_of (past self.old)))) }
+        ensures kept { IsTrue (honest self.old) → past self.new ≡ past self.old }
+        ensures honest { honest self.new ≡ honest self.old };
+
+    /// Syncs the bytes of a file, if it exists. Unless the fault is `Device`, nothing was tried. After `Device` the system
+    /// may have dropped what it could not write, and a later sync of the file does not report that.
+    fn sync_file(&mut self, path: &str) -> Result<(), DeviceFault>
+        ensures effect { IsTrue (honest self.old) → Does (SyncedFile path.now) (past self.old) (past self.new) result }
+        ensures honest { honest self.new ≡ honest self.old };
+
+    /// Syncs the names right in a folder, with the same faults, and `Missing` if the folder does not exist.
+    fn sync_folder(&mut self, folder: &str) -> Result<(), DeviceFault>
+        ensures effect { IsTrue (honest self.old) → Does (SyncedFolder folder.now) (past self.old) (past self.new) result }
+        ensures honest { honest self.new ≡ honest self.old };
+}

@@ -1,0 +1,18 @@
+//! Files by their paths, as a device has them. Every call of an honest device shows and changes the files as its
+//! clauses say, and they determine what a loss of power may leave.
+#![tactic(auto)]
+
+mod device;
+mod memory;
+mod note;
+mod real;
+mod std_files;
+mod text;
+mod tree;
+
+pub use crate::device::{Device, DeviceFault};
+pub use crate::memory::Memory;
+pub use crate::real::Real;
+pub use crate::std_files::{
+    create_file, create_folder, create_folders, found, read_all, readable, regular, sync_folder,
+};

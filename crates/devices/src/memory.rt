@@ -1,0 +1,254 @@
+ghost use Rattle.std.specs.Prelude.{◌≡◌, ◌∷◌, ◌++◌, [], drop, OnOk, OnErr, IfOk, Some, None, true, option_map};
+ghost use Rattle.std.specs.FinMap as map;
+ghost use Rattle.devices.specs.Device.{bytes_or_none, put_there, within};
+ghost use Rattle.devices.specs.Note.{Make, past_of};
+
+use crate::device::{Device, DeviceFault};
+use crate::note::Note;
+use crate::text::Text;
+use crate::tree::Tree;
+use std::alloc::{AllocError, Global};
+
+/// Files in memory, and the list of all that was done to them. It can be made to fail.
+#[derive(Drop)]
+pub struct Memory {
+    alloc: Global,
+    files: Tree,
+    notes: Vec<Note>,
+    // How many calls pass before one fails, if one shall.
+    passing: Option<u64>,
+    ghost make: { Make notes.items files },
+}
+
+// Whether this call fails. Counts it off.
+fn fails(passing: &mut Option<u64>) -> bool {
+    match *passing {
+        None => false,
+        Some(0) => {
+            *passing = None;
+            true
+        }
+        Some(left) => {
+            *passing = Some(left - 1);
+            false
+        }
+    }
+}
+
+// Adds a note before the others.
+fn add(notes: &mut Vec<Note>, note: Note) -> Result<(), AllocError>
+    ensures ok { OnOk result (notes.new.items ≡ note ∷ notes.old.items) }
+    ensures err { OnErr result (notes.new.items ≡ notes.old.items) }
+{
+    notes.insert(0, note)?;
+    Ok(())
+}
+
+// Takes the first note out again.
+fn take_back(notes: &mut Vec<Note>)
+    ensures { notes.new.items ≡ drop 1 notes.old.items }
+{
+    if !notes.is_empty() {
+        notes.remove(0);
+    }
+}
+
+// Adds a note, and puts a file under a path. If there is no memory for either, nothing changes.
+fn add_with(
+    notes: &mut Vec<Note>,
+    files: &mut Tree,
+    note: Note,
+    path: Text,
+    bytes: Text,
+) -> Result<(), AllocError>
+    ensures ok { OnOk result ((notes.new.items ≡ note ∷ notes.old.items) × (files.new ≡ map.insert files.old path bytes)) }
+    ensures err { OnErr result ((notes.new.items ≡ notes.old.items) × (files.new ≡ files.old)) }
+{
+    add(notes, note)?;
+    match files.insert(path, bytes) {
+        Ok(()) => Ok(()),
+        Err(fault) => {
+            take_back(notes);
+            Err(fault)
+        }
+    }
+}
+
+// The bytes of a file, and these after them.
+fn longer(alloc: Global, files: &Tree, path: &Text, bytes: &[u8]) -> Result<Text, AllocError>
+    ensures { IfOk result (λ whole. whole ≡ bytes_or_none (map.get files.now path.now) ++ bytes.now) }
+{
+    let Some(found) = files.get(path) else {
+        return Text::new(alloc, bytes);
+    };
+    let mut whole = found.as_bytes().to_vec(alloc)?;
+    whole.extend_from_slice(bytes)?;
+    Text::new(alloc, whole.as_slice())
+}
+
+// Gives a file another path, if it exists.
+fn rename_in(
+    alloc: Global,
+    notes: &mut Vec<Note>,
+    files: &mut Tree,
+    note: Note,
+    from: &Text,
+    to: Text,
+) -> Result<(), AllocError>
+    ensures ok { OnOk result ((notes.new.items ≡ note ∷ notes.old.items) × (files.new ≡ put_there (map.remove files.old from.now) to (map.get files.old from.now))) }
+    ensures err { OnErr result ((notes.new.items ≡ notes.old.items) × (files.new ≡ files.old)) }
+{
+    let Some(found) = files.get(from) else {
+        return add(notes, note);
+    };
+    let bytes = Text::new(alloc, found.as_bytes())?;
+    if to == *from {
+        return add_with(notes, files, note, to, bytes);
+    }
+    add_with(notes, files, note, to, bytes)?;
+    files.remove(from);
+    Ok(())
+}
+
+// The bytes of a file, if there are at most so many.
+fn read_in(
+    alloc: Global,
+    files: &Tree,
+    path: &Text,
+    most: u64,
+) -> Result<Option<Vec<u8>>, AllocError>
+    ensures { IfOk result (λ found. option_map (λ bytes. bytes.items) found ≡ option_map (within most) (map.get files.now path.now)) }
+{
+    let Some(found) = files.get(path) else {
+        return Ok(None);
+    };
+    if found.as_bytes().len() as u64 > most {
+        return Ok(Some(Vec::new(alloc)));
+    }
+    Ok(Some(found.as_bytes().to_vec(alloc)?))
+}
+
+impl Memory {
+    ghost use Rattle.std.specs.Prelude.{[]};
+
+    /// No files.
+    pub fn new(alloc: Global) -> Memory
+        ensures { result.notes.items ≡ [] }
+    {
+        Memory {
+            alloc,
+            files: Tree::new(alloc),
+            notes: Vec::new(alloc),
+            passing: None,
+        }
+    }
+
+    /// So many calls pass, and the next one fails. What it does is not done, but a sync that fails is one that failed.
+    pub fn fail_after(&mut self, passing: u64)
+        ensures { self.new.notes ≡ self.old.notes }
+    {
+        self.passing = Some(passing);
+    }
+}
+
+impl Device for Memory {
+    ghost past = { λ device. past_of device.notes.items };
+
+    ghost honest = { λ _. true };
+
+    fn read(
+        &mut self,
+        alloc: Global,
+        path: &str,
+        most: u64,
+    ) -> Result<Option<Vec<u8>>, DeviceFault> {
+        if fails(&mut self.passing) {
+            return Err(DeviceFault::Device);
+        }
+        let path = Text::new(self.alloc, path.as_bytes())?;
+        Ok(read_in(alloc, &self.files, &path, most)?)
+    }
+
+    fn write(&mut self, path: &str, bytes: &[u8]) -> Result<(), DeviceFault> {
+        if fails(&mut self.passing) {
+            return Err(DeviceFault::Device);
+        }
+        let path_noted = Text::new(self.alloc, path.as_bytes())?;
+        let bytes_noted = Text::new(self.alloc, bytes)?;
+        let path = Text::new(self.alloc, path.as_bytes())?;
+        let bytes = Text::new(self.alloc, bytes)?;
+        let note = Note::Write(path_noted, bytes_noted);
+        Ok(add_with(&mut self.notes, &mut self.files, note, path, bytes)?)
+    }
+
+    fn append(&mut self, path: &str, bytes: &[u8]) -> Result<(), DeviceFault> {
+        if fails(&mut self.passing) {
+            return Err(DeviceFault::Device);
+        }
+        let path_noted = Text::new(self.alloc, path.as_bytes())?;
+        let bytes_noted = Text::new(self.alloc, bytes)?;
+        let path = Text::new(self.alloc, path.as_bytes())?;
+        let whole = longer(self.alloc, &self.files, &path, bytes)?;
+        let note = Note::Append(path_noted, bytes_noted);
+        Ok(add_with(&mut self.notes, &mut self.files, note, path, whole)?)
+    }
+
+    fn rename(&mut self, from: &str, to: &str) -> Result<bool, DeviceFault> {
+        if fails(&mut self.passing) {
+            return Err(DeviceFault::Device);
+        }
+        let from_noted = Text::new(self.alloc, from.as_bytes())?;
+        let to_noted = Text::new(self.alloc, to.as_bytes())?;
+        let from = Text::new(self.alloc, from.as_bytes())?;
+        let to = Text::new(self.alloc, to.as_bytes())?;
+        let was_there = self.files.get(&from).is_some();
+        let note = Note::Rename(from_noted, to_noted);
+        match rename_in(
+            self.alloc,
+            &mut self.notes,
+            &mut self.files,
+            note,
+            &from,
+            to,
+        ) {
+            Ok(()) => Ok(was_there),
+            Err(_) => Err(DeviceFault::Memory),
+        }
+    }
+
+    fn remove(&mut self, path: &str) -> Result<(), DeviceFault> {
+        if fails(&mut self.passing) {
+            return Err(DeviceFault::Device);
+        }
+        let noted = Text::new(self.alloc, path.as_bytes())?;
+        let path = Text::new(self.alloc, path.as_bytes())?;
+        add(&mut self.notes, Note::Remove(noted))?;
+        self.files.remove(&path);
+        Ok(())
+    }
+
+    fn list(&mut self, alloc: Global, folder: &str) -> Result<Vec<Vec<u8>>, DeviceFault> {
+        if fails(&mut self.passing) {
+            return Err(DeviceFault::Device);
+        }
+        Ok(self.files.list(alloc, folder.as_bytes())?)
+    }
+
+    fn sync_file(&mut self, path: &str) -> Result<(), DeviceFault> {
+        let path = Text::new(self.alloc, path.as_bytes())?;
+        if fails(&mut self.passing) {
+            add(&mut self.notes, Note::FailFile(path))?;
+            return Err(DeviceFault::Device);
+        }
+        Ok(add(&mut self.notes, Note::SyncFile(path))?)
+    }
+
+    fn sync_folder(&mut self, folder: &str) -> Result<(), DeviceFault> {
+        let folder = Text::new(self.alloc, folder.as_bytes())?;
+        if fails(&mut self.passing) {
+            add(&mut self.notes, Note::FailFolder(folder))?;
+            return Err(DeviceFault::Device);
+        }
+        Ok(add(&mut self.notes, Note::SyncFolder(folder))?)
+    }
+}

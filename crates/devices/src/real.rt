@@ -1,0 +1,205 @@
+ghost use Rattle.std.specs.Prelude.{false, []};
+ghost use Rattle.std.specs.FinMap as map;
+
+use crate::device::{Device, DeviceFault};
+use crate::std_files::{create_folder, found, open_file, open_lock, read_all, readable, regular};
+use std::alloc::Global;
+use std::fs::{File, OpenFile};
+use std::io::{ErrorKind, Write};
+use std::path::Path;
+use std::rt::Files;
+use std::{fs, io};
+
+/// The files in a folder of the operating system, which it has locked. It claims nothing: no contract says what the
+/// system's files hold.
+#[derive(Drop)]
+pub struct Real<R> {
+    rt: R,
+    alloc: Global,
+    folder: String,
+    lock: File,
+}
+
+// Locks a folder for as long as the returned file is open. The file `lock` stays, whether or not the folder is locked.
+fn locked<R: Files<File = File>>(rt: &R, path: &str) -> io::Result<File> {
+    found(regular(rt, path))?;
+    let lock = open_lock(rt, path)?;
+    lock.try_lock()?;
+    Ok(lock)
+}
+
+// The path of a file in a folder.
+fn inside(alloc: Global, folder: &str, path: &str) -> io::Result<String> {
+    let mut whole = String::from_str(alloc, folder)?;
+    whole.push_str("/")?;
+    whole.push_str(path)?;
+    Ok(whole)
+}
+
+fn told<T: Drop>(answer: io::Result<T>) -> Result<T, DeviceFault> {
+    match answer {
+        Ok(value) => Ok(value),
+        Err(error) if error.kind() == ErrorKind::OutOfMemory => Err(DeviceFault::Memory),
+        Err(_) => Err(DeviceFault::Device),
+    }
+}
+
+impl<R: Files<File = File> + Drop> Real<R> {
+    /// Locks the folder at this path, which exists. While it is open, another process that opens it gets `Device`. A
+    /// process that is killed unlocks it.
+    pub fn open(rt: R, alloc: Global, folder: &str) -> Result<Real<R>, DeviceFault> {
+        let path = told(inside(alloc, folder, "lock"))?;
+        let folder = String::from_str(alloc, folder)?;
+        let lock = told(locked(&rt, path.as_str()))?;
+        Ok(Real {
+            rt,
+            alloc,
+            folder,
+            lock,
+        })
+    }
+
+    fn path(&self, path: &str) -> io::Result<String> {
+        inside(self.alloc, self.folder.as_str(), path)
+    }
+
+    // Creates the folder of a file.
+    fn create_home(&self, path: &str) -> io::Result<()> {
+        let Some(home) = Path::new(path).parent() else {
+            return Ok(());
+        };
+        create_folder(&self.rt, home.as_str())
+    }
+
+    // No bytes of anything but a regular file, or of one that is longer.
+    fn read_in(&self, alloc: Global, path: &str, most: u64) -> io::Result<Vec<u8>> {
+        let path = self.path(path)?;
+        let known = fs::metadata(&self.rt, path.as_str())?;
+        if !known.is_file() || known.len() > most {
+            return Ok(Vec::new(alloc));
+        }
+        read_all(&self.rt, alloc, path.as_str(), known.len())
+    }
+
+    // Opens a file to write it anew or after its end. Creates its folder if somebody removed that.
+    fn open_to_write(&self, path: &str, is_append: bool) -> io::Result<File> {
+        let path = self.path(path)?;
+        if let Some(file) = found(open_file(&self.rt, path.as_str(), is_append))? {
+            return Ok(file);
+        }
+        self.create_home(path.as_str())?;
+        open_file(&self.rt, path.as_str(), is_append)
+    }
+
+    fn write_in(&self, path: &str, bytes: &[u8], is_append: bool) -> io::Result<()> {
+        self.open_to_write(path, is_append)?.write_all(bytes)
+    }
+
+    fn rename_in(&self, from: &str, to: &str) -> io::Result<bool> {
+        let from = self.path(from)?;
+        let to = self.path(to)?;
+        if found(fs::rename(&self.rt, from.as_str(), to.as_str()))?.is_some() {
+            return Ok(true);
+        }
+        if found(fs::symlink_metadata(&self.rt, from.as_str()))?.is_none() {
+            return Ok(false);
+        }
+        self.create_home(to.as_str())?;
+        fs::rename(&self.rt, from.as_str(), to.as_str())?;
+        Ok(true)
+    }
+
+    fn remove_in(&self, path: &str) -> io::Result<()> {
+        let path = self.path(path)?;
+        found(fs::remove_file(&self.rt, path.as_str()))?;
+        Ok(())
+    }
+
+    // Opens a regular file or a folder, if it exists.
+    fn opened(&self, path: &str, is_folder: bool) -> io::Result<Option<File>> {
+        let path = self.path(path)?;
+        match found(fs::metadata(&self.rt, path.as_str()))? {
+            Some(known) if is_folder || known.is_file() => found(fs::open(&self.rt, path.as_str())),
+            _ => Ok(None),
+        }
+    }
+
+    fn sync(&self, path: &str, is_folder: bool) -> Result<(), DeviceFault> {
+        let file = match self.opened(path, is_folder) {
+            Ok(Some(file)) => file,
+            Ok(None) if is_folder => return Err(DeviceFault::Missing),
+            Ok(None) => return Ok(()),
+            Err(error) if error.kind() == ErrorKind::OutOfMemory => return Err(DeviceFault::Memory),
+            Err(_) => return Err(DeviceFault::Unopened),
+        };
+        let synced = if is_folder {
+            file.sync_all()
+        } else {
+            file.sync_data()
+        };
+        match synced {
+            Ok(()) => Ok(()),
+            Err(_) => Err(DeviceFault::Device),
+        }
+    }
+}
+
+impl<R: Files<File = File> + AllocGlobal + Clone + Drop> Real<R> {
+    fn list_in(&self, alloc: Global, folder: &str) -> io::Result<Vec<Vec<u8>>> {
+        let mut names = Vec::new(alloc);
+        let home = self.path(folder)?;
+        let Some(listing) = found(fs::read_dir(&self.rt, home.as_str()))? else {
+            return Ok(names);
+        };
+        for entry in listing {
+            if let Some(entry) = readable(entry)? {
+                names.push(entry.file_name().as_bytes().to_vec(alloc)?)?;
+            }
+        }
+        names.sort_unstable();
+        Ok(names)
+    }
+}
+
+impl<R: Files<File = File> + AllocGlobal + Clone + Drop> Device for Real<R> {
+    ghost past = { λ _. record { base = map.empty; effects = [] } };
+
+    ghost honest = { λ _. false };
+
+    fn read(
+        &mut self,
+        alloc: Global,
+        path: &str,
+        most: u64,
+    ) -> Result<Option<Vec<u8>>, DeviceFault> {
+        told(found(self.read_in(alloc, path, most)))
+    }
+
+    fn write(&mut self, path: &str, bytes: &[u8]) -> Result<(), DeviceFault> {
+        told(self.write_in(path, bytes, false))
+    }
+
+    fn append(&mut self, path: &str, bytes: &[u8]) -> Result<(), DeviceFault> {
+        told(self.write_in(path, bytes, true))
+    }
+
+    fn rename(&mut self, from: &str, to: &str) -> Result<bool, DeviceFault> {
+        told(self.rename_in(from, to))
+    }
+
+    fn remove(&mut self, path: &str) -> Result<(), DeviceFault> {
+        told(self.remove_in(path))
+    }
+
+    fn list(&mut self, alloc: Global, folder: &str) -> Result<Vec<Vec<u8>>, DeviceFault> {
+        told(self.list_in(alloc, folder))
+    }
+
+    fn sync_file(&mut self, path: &str) -> Result<(), DeviceFault> {
+        self.sync(path, false)
+    }
+
+    fn sync_folder(&mut self, folder: &str) -> Result<(), DeviceFault> {
+        self.sync(folder, true)
+    }
+}

@@ -1,5 +1,0 @@
-pub mod BitLemmas
-pub mod NextLemmas
-pub mod PageLemmas
-pub mod PartLemmas
-pub mod WithinLemmas

@@ -1,7 +1,0 @@
-use Rattle.std.proofs.Common.{ap, ◌∙◌}
-use Rattle.number_sets.specs.Numbers.{is_in}
-use Rattle.number_sets.proofs.PageLemmas.{zeros_lack}
-use Rattle.number_sets.proofs.page.Page.new.Goals as goal
-
-pub returns : goal.returns
-returns c q = ap (λ ws. is_in ws q) c.in_ok-words.ensures.ok ∙ zeros_lack 64 q

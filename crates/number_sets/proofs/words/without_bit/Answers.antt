@@ -1,5 +1,0 @@
-use Rattle.number_sets.proofs.BitLemmas.{without_has}
-use Rattle.number_sets.proofs.words.without_bit.Goals as goal
-
-pub returns : goal.returns
-returns c = without_has c.args.word c.args.k c.requires

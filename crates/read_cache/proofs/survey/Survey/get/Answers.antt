@@ -1,8 +1,0 @@
-use Rattle.std.proofs.Common.{sym, ◌∙◌, ap}
-use Rattle.std.specs.FinMap as map
-use Rattle.git_name.proofs.Names.{name_total}
-use Rattle.git_name.proofs.TreeMaps.{get_of_entries}
-use Rattle.read_cache.proofs.survey.Survey.get.Goals as goal
-
-pub returns : goal.returns
-returns c = c.copied.ensures ∙ c.get.ensures.value ∙ sym (get_of_entries name_total c.self.inside.seen.entries c.args.name) ∙ ap (λ m. map.get m c.args.name) c.self.view_is

@@ -14,8 +14,8 @@ MANDIR = $(PREFIX)/share/man
 UNITDIR = $(PREFIX)/lib/systemd/system
 USERDIR = $(PREFIX)/lib/sysusers.d
 COMPLETIONS = $(PREFIX)/share/bash-completion/completions
-CLIENTS = forkhost-ask forkhost-door forkhost-http forkhost-metrics forkhost-shell git-remote-forkhost
-MODULES = forkhost_client forkhost_front
+CLIENTS = forkhost-ask forkhost-door forkhost-http forkhost-metrics forkhost-move forkhost-shell git-remote-forkhost
+MODULES = forkhost_client forkhost_front forkhost_shards
 HOOKS = forkhost_front/hooks
 UNITS = forkhost.service forkhost-metrics.service forkhost-metrics.timer forkhost-sweep.service forkhost-sweep.timer
 

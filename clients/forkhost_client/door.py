@@ -77,18 +77,21 @@ def is_done(reply) -> bool:
 
 
 def asked_host(path: str, turn: Turn, who: bytes, payload: bytes):
+    turn.stand(path)
     turn.take(payload)
     reply = told(path, frame(who, payload))
     turn.leave(payload, is_done(reply))
     return reply
 
 
-def serve(path: str, tenant: str, source, sink) -> None:
-    """Frames up to the end of the input, or to a bad one, which is answered as the host does."""
-    turn = Turn(f"{path}.{tenant}.turn")
+def serve(socket_of, tenant: str, source, sink) -> None:
+    """Frames up to the end of the input, or to a bad one, which is answered as the host does.
+
+    `socket_of` tells before each frame at which socket the tenant's host is, or None if the tenant has no host."""
+    turn = Turn(tenant)
     try:
         while asked := read_frame(source, PATIENCE if turn.is_taken() else IDLE):
-            is_theirs = asked[0] == bytes_of(tenant)
-            hand_out(asked_host(path, turn, *asked) if is_theirs else BytesIO(NOBODY), sink)
+            path = socket_of(tenant) if asked[0] == bytes_of(tenant) else None
+            hand_out(asked_host(path, turn, *asked) if path is not None else BytesIO(NOBODY), sink)
     except BadFrame:
         hand_out(BytesIO(BAD_FRAME), sink)

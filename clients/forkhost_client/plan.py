@@ -1,4 +1,4 @@
-"""Which objects a push sends, in which order, and in how many uploads."""
+"""Which objects a push sends, and in which order."""
 from .faults import Refused
 from .links import children_first, inner_first
 from .negotiation import visible
@@ -30,20 +30,6 @@ class Plan:
 
     def length(self) -> int:
         return length_of(self.objects)
-
-    def uploads(self, room: int) -> list:
-        """The objects in their order, in runs of records of at most this many bytes."""
-        lengths = {kind: length_of(one for one in self.objects if one.kind == kind) for kind in KINDS}
-        runs, left, kind = [[]], room, ""
-        for one in self.objects:
-            is_first, kind = one.kind != kind, one.kind
-            wanted = lengths[kind] if is_first and lengths[kind] <= TOGETHER else one.record
-            if wanted > left:
-                runs.append([])
-                left = room
-            left -= one.record
-            runs[-1].append(one)
-        return runs
 
 
 def in_order(sizes: dict, repository: Repository) -> list:

@@ -3,18 +3,18 @@ import posix
 import sys
 from _signal import SIG_DFL, SIGINT, signal
 
-from .address import OPERATOR, is_who, read_address
+from .address import OPERATOR, is_tenant, is_who, read_address
 from .connection import Connection
 from .faults import Fatal, Internal, Refused
 from .frames import bytes_of
 from .progress import say
 
-DOOR_USAGE = "usage: forkhost-door SOCKET TENANT, by a front end, with frames on standard input"
+DOOR_USAGE = "usage: forkhost-door SOCKET TENANT, or forkhost-door --route TABLE TENANT, by a front end, with frames on standard input"
 ASK_USAGE = "usage: forkhost-ask SOCKET TENANT WORD [ARG ..] [-]"
 HELPER_USAGE = "usage: git-remote-forkhost REMOTE forkhost::/ABSOLUTE/SOCKET/TENANT/REPO (Git runs it)"
 DONE, REFUSED, FAULT, FATAL = 0, 1, 2, 128
 PIECE = 1 << 16
-HELP = ["--help"]
+HELP, ROUTE = ["--help"], "--route"
 # The word of a refusal, where the host does not know the request; and the words of the host's own requests.
 UNKNOWN, OF_HOST = "bad-request", ("sweep", "collect", "census", "fsck", "tenants")
 # Set in the children of a helper, so that a helper which a child starts can tell.
@@ -143,15 +143,24 @@ def advice(refusal: Refused, tenant: str, word: str):
             yield f"ask it as {OPERATOR}"
 
 
+def read_door(words: list) -> tuple:
+    """What tells at which socket a tenant's host is, and the tenant."""
+    if len(words) == 2 and is_who(words[1]):
+        return lambda tenant: words[0], words[1]
+    if len(words) == 3 and words[0] == ROUTE and is_tenant(words[2]):
+        from .route import Route
+
+        return Route(words[1]).socket_of, words[2]
+    raise Fatal(DOOR_USAGE)
+
+
 def door(words: list) -> int:
     """`forkhost-door SOCKET TENANT`: frames of one tenant from standard input, replies to standard output."""
     from .door import serve
 
     leave_signals()
     try:
-        if len(words) != 2 or not is_who(words[1]):
-            raise Fatal(DOOR_USAGE)
-        serve(words[0], words[1], stream_of(sys.stdin, "input"), stream_of(sys.stdout, "output"))
+        serve(*read_door(words), stream_of(sys.stdin, "input"), stream_of(sys.stdout, "output"))
         return DONE
     except Internal as fault:
         tell("forkhost-door", fault.shown)

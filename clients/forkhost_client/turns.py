@@ -8,13 +8,25 @@ VERBS = (b"part", b"part-end", b"part-drop", b"push")
 
 
 class Turn:
-    """A lock among the doors of a tenant, by a file beside the socket. It goes with the process."""
+    """A lock among the doors of a tenant, by a file beside the host's socket. It goes with the process."""
 
-    def __init__(self, path: str):
-        self.path, self.file = path, -1
+    def __init__(self, tenant: str):
+        self.tenant, self.path, self.file = tenant, "", -1
 
     def is_taken(self) -> bool:
         return self.file >= 0
+
+    def stand(self, socket: str) -> None:
+        """Before a request, at the socket of the tenant's host. An upload that is open at another host is given up."""
+        path = f"{socket}.{self.tenant}.turn"
+        if path != self.path:
+            self.let_go()
+            self.path = path
+
+    def let_go(self) -> None:
+        if self.is_taken():
+            os.close(self.file)
+            self.file = -1
 
     def take(self, payload: bytes) -> None:
         """Before a request: it waits where it is about an upload, and another door has one open."""
@@ -30,9 +42,8 @@ class Turn:
 
     def leave(self, payload: bytes, is_done: bool) -> None:
         """After its reply: a part that is done leaves the upload open."""
-        if self.is_taken() and verb(payload) in VERBS and not (is_done and verb(payload) == b"part"):
-            os.close(self.file)
-            self.file = -1
+        if verb(payload) in VERBS and not (is_done and verb(payload) == b"part"):
+            self.let_go()
 
 
 def verb(payload: bytes) -> bytes:

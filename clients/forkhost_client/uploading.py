@@ -1,11 +1,26 @@
 """Sends objects and commands: in one frame, in one upload, or in several of which the last has the commands."""
 from .faults import Fatal, Refused
-from .plan import MAX_UPLOAD, Plan, length_of
+from .plan import KINDS, MAX_UPLOAD, TOGETHER, Plan, length_of
 from .progress import Progress, say
 from .remote import MAX_PART, Remote
 from .repository import Batch, Repository
 
 END = b"\n"
+
+
+def split(objects: list, room: int) -> list:
+    """Objects in their order, in uploads of at most this many bytes of records. A kind that fits goes in one."""
+    lengths = {kind: length_of(one for one in objects if one.kind == kind) for kind in KINDS}
+    uploads, left, kind = [[]], room, ""
+    for one in objects:
+        is_first, kind = one.kind != kind, one.kind
+        wanted = lengths[kind] if is_first and lengths[kind] <= TOGETHER else one.record
+        if wanted > left:
+            uploads.append([])
+            left = room
+        left -= one.record
+        uploads[-1].append(one)
+    return uploads
 
 
 def send_parts(remote: Remote, batch: Batch, commands: bytes, length: int, progress: Progress) -> None:
@@ -34,7 +49,7 @@ def send_all(repository: Repository, remote: Remote, plan: Plan, commands: bytes
     Objects of uploads before one that is refused stay at the host, and in the tenant's use."""
     if remote.drop_upload():
         say("dropped an upload that was left open")
-    uploads = plan.uploads(MAX_UPLOAD - len(commands + END))
+    uploads = split(plan.objects, MAX_UPLOAD - len(commands + END))
     total = plan.length() + len(commands) + len(uploads) * len(END)
     progress = Progress("Writing objects", shown and bool(plan.objects), total)
     with repository.records([one.name for one in plan.objects]) as batch:

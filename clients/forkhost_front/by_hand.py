@@ -12,7 +12,7 @@ PIECE = 1 << 16
 
 def ask(settings: Settings, asked: Asked, entry: Entry, sink) -> None:
     """The data of the reply goes to the sink."""
-    with Connection(settings.socket, entry.tenant, waiting) as connection:
+    with Connection(settings.socket_of(entry.tenant), entry.tenant, waiting) as connection:
         data = connection.ask(" ".join([asked.word, *asked.rest]))
         while data.left:
             piece = data.read(min(data.left, PIECE))

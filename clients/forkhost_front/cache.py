@@ -40,7 +40,7 @@ class Cache:
 
     def __init__(self, settings: Settings, tenant: str, name: str, lock: int = -1):
         """`lock` is the open file of the lock where another process has it."""
-        self.address = Address(settings.socket, tenant, name)
+        self.settings, self.address = settings, Address(settings.socket, tenant, name)
         self.log = Log(settings.log)
         self.path = os.path.join(own_folder(os.path.join(own_folder(settings.caches), tenant)), name)
         self.lock, self.use = Lock(self.path + ".lock", lock), Lock(self.path + ".use")
@@ -51,7 +51,8 @@ class Cache:
         self.has_grown = False
 
     def connect(self) -> Remote:
-        return Remote(Connection(self.address.socket, self.address.tenant, waiting), self.address.repository)
+        tenant = self.address.tenant
+        return Remote(Connection(self.settings.socket_of(tenant), tenant, waiting), self.address.repository)
 
     def tell(self, reply: str, why: str = "") -> None:
         self.log.line(self.address.tenant, "cache", self.address.repository, reply, *([why] if why else []))

@@ -3,14 +3,15 @@ import os
 import sys
 from _signal import SIG_IGN, SIGTERM, signal
 
-from forkhost_client.address import is_tenant, repository_of
+from forkhost_client.address import repository_of
 from forkhost_client.faults import Fatal, HostFault, Refused
 from forkhost_client.progress import say
 
 from .asked import READ, WRITE
 from .log import NOTHING, Entry, Log
 from .service import Service
-from .settings import PLACE, Settings, read_settings, rows
+from .settings import PLACE, Settings, read_settings
+from .tenants import NoTenant, tenant_of
 
 SETTINGS = "FORKHOST_SETTINGS"
 LIST = "info/refs"
@@ -46,19 +47,6 @@ def read_asked() -> Asked:
     if service not in (READ, WRITE):
         raise Answered(FORBIDDEN, "only Git's smart protocol is served")
     return Asked(repository, what, service)
-
-
-def tenant_of(settings: Settings) -> str:
-    """The tenant of the user whom the web server knows."""
-    user = os.environ.get("REMOTE_USER", "")
-    if not settings.users:
-        raise Fatal(f"'{settings.place}' does not set users")
-    if not user:
-        raise Answered(FORBIDDEN, "the web server named no user")
-    tenant = rows(settings.users).get(user, "")
-    if not is_tenant(tenant):
-        raise Answered(FORBIDDEN, f"user '{user}' has no tenant here")
-    return tenant
 
 
 def outer(settings: Settings, tenant: str, asked: Asked) -> dict:
@@ -99,9 +87,12 @@ def end(*_) -> None:
 def judged(settings: Settings, entry: Entry) -> "Answered | None":
     """Serves the request; or what it is answered."""
     try:
-        entry.tenant = tenant_of(settings)
+        entry.tenant = tenant_of(os.environ.get("REMOTE_USER", ""), settings)
         serve(settings, entry)
         return None
+    except NoTenant as fault:
+        entry.reply = "refused" if entry.reply == "failed" else entry.reply
+        return Answered(FORBIDDEN, str(fault))
     except Answered as answered:
         entry.reply = "refused" if entry.reply == "failed" else entry.reply
         return answered

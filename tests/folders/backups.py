@@ -5,6 +5,7 @@ copy has to be the host as it was when its journal was copied. The same commands
 state, make a copy that is refused or lacks something."""
 import os
 import random
+import re
 import select
 import socket
 import subprocess
@@ -38,15 +39,16 @@ def copy(source, place):
 *sources, place = sys.argv[2:]
 status = 0
 for source in sources:
-    step(source)
-    if source == "objects":
+    called = source.replace("segments", "objects")
+    step(called)
+    if called == "objects":
         os.mkdir(os.path.join(place, source))
         for name in sorted(os.listdir(source)):
-            step(source + "/" + name)
+            step(called + "/" + name)
             status |= copy(os.path.join(source, name), os.path.join(place, source))
     else:
         status |= copy(source, place)
-    step("after " + source)
+    step("after " + called)
 sys.exit(status)
 """
 
@@ -107,7 +109,11 @@ class Copying:
             with open(os.path.join(tools, name), "x", encoding="utf-8") as file:
                 file.write(text)
             os.chmod(os.path.join(tools, name), 0o700)
-        script = change(commands(block("docs/OPERATING.md", "Backup", "forkhost check")))
+        page = commands(block("docs/OPERATING.md", "Backup", "forkhost check"))
+        script = change(page)
+        self.is_changed = script != page
+        if busy.folder.segments():
+            script = re.sub(r"\bobjects\b", "segments", script)
         self.script = script.replace("/var/lib/forkhost/host", busy.folder.path).replace("/backup/host", self.place)
         self.environment = {**os.environ, "PATH": os.pathsep.join([tools, os.environ["PATH"]])}
 
@@ -194,6 +200,10 @@ WRONG = {
 }
 
 
+# In a packed folder nothing moves from one place to another.
+OF_FILES = "swept before objects"
+
+
 def once(busy, step, happening):
     """It happens before this step, the first time."""
     due = [HAPPENINGS[happening]]
@@ -214,8 +224,11 @@ def show_wrong_backups(checks, program, work):
     for number, (label, ((old, new), (happening, step, fault))) in enumerate(WRONG.items()):
         os.mkdir(place := os.path.join(work, str(number)))
         busy = begun(program, place)
+        if label == OF_FILES and busy.folder.segments():
+            busy.end()
+            continue
         copying = Copying(busy, lambda script: script.replace(old, new))
-        checks.same(f"{label}: the commands are others", True, new in copying.script.replace(copying.place, "/backup/host"))
+        checks.same(f"{label}: the commands are others", True, copying.is_changed)
         status, output, said, _ = copying.run(once(busy, step, happening))
         last = said.splitlines()[-1:]
         checks.same(f"{label}: check, {last}", (1, b"", [True]), (status, output, [fault in row for row in last]))

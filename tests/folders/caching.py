@@ -8,7 +8,7 @@ from lib.checks import Checks
 from lib.folder import Folder
 from lib.frames import frames, framed
 from lib.live import Live
-from lib.objects import name_of, record, stored
+from lib.objects import name_of, record
 from lib.program import done
 
 ALICE, BOB, CAROL, HOST = b"alice", b"bob", b"carol", b"@host"
@@ -42,19 +42,6 @@ def begun(checks, program, *words):
     return live
 
 
-def spoil(folder, content, kind=b"blob"):
-    """A link to itself is in the place of the object's file, so that no read of it succeeds."""
-    path = folder.file_of(name_of(kind, content))
-    os.remove(path)
-    os.symlink(path, path)
-
-
-def mend(folder, content, kind=b"blob"):
-    name = name_of(kind, content)
-    os.remove(folder.file_of(name))
-    folder.keep(name, stored(kind, content))
-
-
 def commit_of(tree, seconds, *parents):
     lines = [b"tree %s" % tree, *(b"parent %s" % parent for parent in parents)]
     idents = [b"%s A <a@b> %d +0000" % (word, seconds) for word in (b"author", b"committer")]
@@ -62,7 +49,7 @@ def commit_of(tree, seconds, *parents):
 
 
 def show_kept_objects(checks: Checks, program, work):
-    """What was read is shown again although its file cannot be read, if it is not too long; and to those alone who see it."""
+    """What was read is shown again although its file is altered, if it is not too long; and to those alone who see it."""
     folder = Folder(os.path.join(work, "kept"))
     live = begun(checks, program, "--dir", folder.path)
     short, long = b"s" * LONGEST, b"l" * (LONGEST + 1)
@@ -70,15 +57,15 @@ def show_kept_objects(checks: Checks, program, work):
         checks.same("a push", b"ok\n", live.asked(who, push_of([short, long])))
     for content in (short, long):
         checks.same("a first read", told_of(content), live.asked(ALICE, ask_of(name_of(b"blob", content))))
-        spoil(folder, content)
+        folder.flip(name_of(b"blob", content))
     for who in (ALICE, BOB):
         checks.same("one that is kept", told_of(short), live.asked(who, ask_of(name_of(b"blob", short))))
-        checks.same("one that is too long", b"host store\n", live.asked(who, ask_of(name_of(b"blob", long))))
+        checks.same("one that is too long", b"host damaged\n", live.asked(who, ask_of(name_of(b"blob", long))))
     for content in (short, long):
         name = name_of(b"blob", content)
         checks.same("who sees none is told so", b"no missing %s\n" % name, live.asked(CAROL, ask_of(name)))
-        mend(folder, content)
-        checks.same("what is put back", told_of(content), live.asked(BOB, ask_of(name)))
+        folder.flip(name)
+        checks.same("what is as it was", told_of(content), live.asked(BOB, ask_of(name)))
     checks.same("its end", done(), live.ended())
 
 
@@ -90,14 +77,14 @@ def show_oldest_goes(checks: Checks, program, work):
     checks.same("a push", b"ok\n", live.asked(ALICE, push_of(contents)))
     first = name_of(b"blob", contents[0])
     checks.same("the first", told_of(contents[0]), live.asked(ALICE, ask_of(first)))
-    spoil(folder, contents[0])
+    folder.flip(first)
     for content in contents[1:KEPT]:
         checks.same("another", told_of(content), live.asked(ALICE, ask_of(name_of(b"blob", content))))
     checks.same("it is kept", told_of(contents[0]), live.asked(ALICE, ask_of(first)))
     for content in contents[1:]:
         checks.same("another", told_of(content), live.asked(ALICE, ask_of(name_of(b"blob", content))))
-    checks.same("it is gone", b"host store\n", live.asked(ALICE, ask_of(first)))
-    mend(folder, contents[0])
+    checks.same("it is gone", b"host damaged\n", live.asked(ALICE, ask_of(first)))
+    folder.flip(first)
     checks.same("its end", done(), live.ended())
 
 
@@ -127,7 +114,7 @@ def show_swept_and_sent_again(checks: Checks, program, work):
         checks.same("it is swept", b"ok\n1\n", live.asked(HOST, b"collect\n"))
         checks.same("nothing is left", b"ok\n0\n", live.asked(HOST, b"census\n"))
         checks.same("nor is it seen then", b"no missing %s\n" % name, live.asked(ALICE, ask_of(name)))
-        checks.same("its file is gone", {}, folder.files())
+        checks.same("its file is gone", {}, folder.live())
     checks.same("its end", done(), live.ended())
 
 
@@ -157,38 +144,40 @@ def sent_history(blob, tree, commits):
 
 
 def show_push_opens_nothing(checks: Checks, program, work):
-    """By strace: a push in one body opens no file of an object that it wrote, and not what it wrote before."""
+    """By strace: a push in one body opens no file of an object to read it. It opens each once to write it, or a segment."""
     if not shutil.which("strace"):
         raise OSError("there is no strace, by which calls are seen")
     folder, log = Folder(os.path.join(work, "opened")), os.path.join(work, "calls")
     given = frames([(ALICE, b"init r\n"), (ALICE, sent_history(*made_history()))])
-    words = ["strace", "-f", "-qq", "-o", log, "-e", "trace=openat,write", program.path, "run", "--dir", folder.path, *TENANTS]
-    ran = subprocess.run(words, input=given, capture_output=True, check=False)
+    words = program.given("run", "--dir", folder.path, *TENANTS)
+    traced = ["strace", "-f", "-qq", "-o", log, "-e", "trace=openat,write", *words]
+    ran = subprocess.run(traced, input=given, capture_output=True, check=False)
     checks.same("a push", (0, framed(b"ok\n") * 2), (ran.returncode, ran.stdout))
     with open(log, encoding="utf-8", errors="replace") as file:
         lines = file.read().splitlines()
     told = max(at for at, line in enumerate(lines) if "write(1," in line)
-    opened = [line for line in lines[:told] if re.search("/objects/[0-9a-f]{2}/", line) and not re.search("O_DIRECTORY| = -1 ", line)]
+    ours, others = "/(objects/[0-9a-f]{2}/|segments/[0-9])", "O_DIRECTORY| = -1 "
+    opened = [line for line in lines[:told] if re.search(ours, line) and not re.search(others, line)]
     checks.same("each file is made", len(folder.files()), sum("O_CREAT" in line for line in opened))
     checks.same("and none is opened", [], [line for line in opened if "O_CREAT" not in line])
 
 
 def show_links_are_known(checks: Checks, program, work):
-    """After a push, and after a start, links are followed although no tree and no commit can be read."""
+    """After a push, and after a start, links are followed although each tree and each commit is altered."""
     folder = Folder(os.path.join(work, "links"))
     blob, tree, commits = made_history()
     names = [name_of(b"commit", commit) for commit in commits]
     sent = sent_history(blob, tree, commits)
-    unread = [(tree, b"tree"), *((commit, b"commit") for commit in commits)]
+    unread = [name_of(b"tree", tree), *names]
     live = begun(checks, program, "--dir", folder.path)
     checks.same("a push", b"ok\n", live.asked(ALICE, sent))
     for words in (None, ["--dir", folder.path]):
         if words:
             live = Live(program, *words)
             checks.same("it is started", b"ok\nr\n", live.asked(ALICE, b"repos\n"))
-        for content, kind in unread:
-            spoil(folder, content, kind)
+        for name in unread:
+            folder.flip(name)
         asks_links(checks, live, names)
-        for content, kind in unread:
-            mend(folder, content, kind)
+        for name in unread:
+            folder.flip(name)
         checks.same("its end", done(), live.ended())

@@ -91,7 +91,6 @@ def show_wrong_things(checks, program, work):
             stays = there(folder.path)
             checks.same(f"it stays, a {label} as the {place}", before[folder.inside(place)], stays[folder.inside(place)])
     folder = Folder(os.path.join(work, "file-as-objects"))
-    os.rmdir(folder.inside("objects"))
     open(folder.inside("objects"), "xb").close()
     path = folder.inside("objects")
     ran = told(program, "run", "--dir", folder.path)
@@ -132,12 +131,13 @@ def show_no_right(checks, program, work):
     checks.same("nothing is made", False, os.path.exists(os.path.join(work, "new")))
     roots = Folder(os.path.join(work, "roots"))
     roots.set_state(STATE)
-    checks.same("a folder that is root's", denied(STORE, "roots", "objects"), run("roots"))
+    checks.same("a folder that is root's", denied(STORE, "roots", "lock"), run("roots"))
     ran = told(Other, "check", "--dir", roots.path, **who)
     checks.same("check of it", denied(UNREADABLE, "roots", "state"), ran)
     for place, fault in {"lock": STORE, "objects": STORE, "swept": STORE, "state": UNREADABLE}.items():
         folder = Folder(os.path.join(work, f"no-{place}"))
         folder.set_state(STATE)
+        os.makedirs(folder.inside("objects"))
         os.makedirs(folder.inside("swept"))
         open(folder.inside("lock"), "xb").close()
         for path in (folder.path, *there(folder.path)):

@@ -82,7 +82,6 @@ def show_refused(checks, program, work):
     killed(live)
     for words in ((ADD, "carol=5"), (LIMIT, "bob=5"), (REMOVE, "bob")):
         nowhere = Folder(os.path.join(work, "nowhere"))
-        os.rmdir(nowhere.inside("objects"))
         os.rmdir(nowhere.path)
         checks.same(f"{words[0]} of no folder", failed("no state"), change(program, nowhere, *words))
         checks.same(f"{words[0]} makes none", False, os.path.exists(nowhere.path))

@@ -6,7 +6,7 @@ import subprocess
 import time
 
 from folders.before import LEFT, NEW, OLD, copy, show_all
-from folders.kills import CALLS, some_of
+from folders.injected_calls import CALLS, some_of
 from folders.upgrades import STATE_2, upgraded
 from lib.program import PATIENCE, Ran, failed, sound, without_cause
 

@@ -6,10 +6,12 @@ import subprocess
 
 from lib.program import Program
 
-# The calls below `objects` and `swept`, by kinds. What is shared says which kinds count, how many pass, how many fail
+# The calls below `objects`, `swept` and `segments`, by kinds. What is shared says which kinds count, how many pass, how many fail
 # then, and how many were counted and failed.
 KINDS = {name: 1 << at for at, name in enumerate(("open", "stat", "mkdir", "rename", "unlink", "read", "write", "list", "sync"))}
 KINDS["all"] = sum(KINDS.values())
+# Of writes the first one that fails writes half of its bytes, as on a disk that is full from then on.
+FULL = {"full": 1 << len(KINDS)}
 SHIM = r"""
 #define _GNU_SOURCE
 #include <dirent.h>
@@ -23,7 +25,7 @@ SHIM = r"""
 #include <sys/stat.h>
 #include <unistd.h>
 
-enum { OPEN = 1, STAT = 2, MKDIR = 4, RENAME = 8, UNLINK = 16, READ = 32, WRITE = 64, LIST = 128, SYNC = 256 };
+enum { OPEN = 1, STAT = 2, MKDIR = 4, RENAME = 8, UNLINK = 16, READ = 32, WRITE = 64, LIST = 128, SYNC = 256, FULL = 1024 };
 
 static volatile long *cell;
 static char ours[4096];
@@ -40,7 +42,7 @@ static int fails(int kind) {
 }
 
 static int is_ours(const char *path) {
-    return path && (strstr(path, "/objects") || strstr(path, "/swept"));
+    return path && (strstr(path, "/objects") || strstr(path, "/swept") || strstr(path, "/segments"));
 }
 
 static int has(int fd) { return fd >= 0 && fd < 4096 && ours[fd]; }
@@ -101,8 +103,17 @@ ssize_t read(int fd, void *bytes, size_t size) {
     return has(fd) && fails(READ) ? -1 : real(fd, bytes, size);
 }
 
+ssize_t pread64(int fd, void *bytes, size_t size, off_t at) {
+    REAL(pread64, ssize_t, int, void *, size_t, off_t);
+    return has(fd) && fails(READ) ? -1 : real(fd, bytes, size, at);
+}
+
 ssize_t write(int fd, const void *bytes, size_t size) {
     REAL(write, ssize_t, int, const void *, size_t);
+    if (has(fd) && fails(FULL)) {
+        errno = ENOSPC;
+        return cell[4] == 1 && size > 1 ? real(fd, bytes, size / 2) : -1;
+    }
     return has(fd) && fails(WRITE) ? -1 : real(fd, bytes, size);
 }
 
@@ -142,7 +153,7 @@ class Fuse:
             self.shared = mmap.mmap(file.fileno(), 4096)
 
     def set(self, kind, passes, fails):
-        self.shared[:40] = struct.pack("5q", KINDS[kind], passes, fails, 0, 0)
+        self.shared[:40] = struct.pack("5q", {**KINDS, **FULL}[kind], passes, fails, 0, 0)
 
     def counted(self):
         return struct.unpack("5q", self.shared[:40])[3]
@@ -165,8 +176,8 @@ class Fuse:
 class Failing(Program):
     """The program over calls that fail as its fuse says."""
 
-    def __init__(self, path, work):
-        super().__init__(path)
+    def __init__(self, given, work):
+        super().__init__(given.path, given.more)
         shim, source, cell = (os.path.join(work, name) for name in ("shim.so", "shim.c", "cell"))
         with open(source, "w", encoding="ascii") as file:
             file.write(SHIM)
@@ -175,6 +186,6 @@ class Failing(Program):
         self.words = ["env", f"LD_PRELOAD={shim}", f"CELL={cell}", self.path]
 
     def begun(self, *words, stdin=subprocess.PIPE, stdout=subprocess.PIPE):
-        child = subprocess.Popen([*self.words, *words], stdin=stdin, stdout=stdout, stderr=subprocess.PIPE)
+        child = subprocess.Popen([*self.words, *self.given(*words)[1:]], stdin=stdin, stdout=stdout, stderr=subprocess.PIPE)
         self.running = [other for other in self.running if other.poll() is None] + [child]
         return child

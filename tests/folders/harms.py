@@ -63,9 +63,23 @@ def remove(folder, name):
     os.remove(folder.file_of(name))
 
 
-ALTERED = {
+def spoil(folder, name):
+    """Removes an object's file, or alters it if it is one of many in a segment. What is told of it then."""
+    if folder.segments():
+        folder.flip(name)
+        return b"damaged"
+    remove(folder, name)
+    return b"lost"
+
+
+# In a segment an object's file is altered as long as it is.
+AS_LONG = {
     "the last byte changed": (lambda file: altered(file, len(file) - 1), b"damaged"),
     "the first byte changed": (lambda file: altered(file, 0), b"damaged"),
+    "zeros": (lambda file: bytes(len(file)), b"damaged"),
+}
+ALTERED = {
+    **AS_LONG,
     "cut by one byte": (lambda file: file[:-1], b"damaged"),
     "one byte more": (lambda file: file + b"x", b"damaged"),
     "emptied": (lambda file: b"", b"damaged"),
@@ -74,9 +88,22 @@ ALTERED = {
 }
 
 
+def alterations(folder):
+    """What can be done to the file of an object while a host runs over the folder."""
+    return AS_LONG if folder.segments() else ALTERED
+
+
 def alter(folder, name, change):
-    file = change(content(folder.file_of(name)))
-    remove(folder, name) if file is None else folder.keep(name, file)
+    file = change(folder.content_of(name))
+    if folder.segments():
+        folder.write_over(name, file)
+    else:
+        remove(folder, name) if file is None else folder.keep(name, file)
+
+
+def at_start(folder, harm):
+    """What a start reports of this harm: it passes over a record that is wrong."""
+    return b"lost" if folder.segments() else harm
 
 
 def show_alteration(checks, program, work, label, text, is_read):
@@ -104,7 +131,7 @@ def show_alteration(checks, program, work, label, text, is_read):
     checks.same(f"{label}: a collection", b"ok\n0\n", live.asked(HOST, b"collect\n"))
     checks.same(f"{label}: files", files, folder.files())
     checks.same(f"{label}: its end", done(), live.ended())
-    fault = failed(f"{harm.decode()} {name.decode()}")
+    fault = failed(f"{at_start(folder, harm).decode()} {name.decode()}")
     checks.same(f"{label}: a check", fault, program.checked(folder.path))
     checks.same(f"{label}: a start", fault, program.ran("run", "--dir", folder.path, given=frame(HOST, FSCK)))
     folder.keep(name, stored(b"blob", text))
@@ -114,15 +141,19 @@ def show_alteration(checks, program, work, label, text, is_read):
 
 
 def show_alterations(checks, program, work):
+    new = Folder(os.path.join(work, "new"))
+    checks.same("a new folder", done(), program.ran("run", "--dir", new.path))
     for text in (LARGE, SMALL):
         for is_read in (False, True):
-            for label in ALTERED:
+            for label in alterations(new):
                 show_alteration(checks, program, work, label, text, is_read)
 
 
 def show_unheld(checks, program, work):
     """The file of an object that nobody holds is nobody's harm, gone or altered."""
-    for label, (change, _) in ALTERED.items():
+    new = Folder(os.path.join(work, "new"))
+    checks.same("a new folder", done(), program.ran("run", "--dir", new.path))
+    for label, (change, _) in alterations(new).items():
         folder = Folder(os.path.join(work, label))
         live = begun(checks, program, folder, ALICE, texts=[LARGE])
         free = name_of(b"blob", b"nobody's")
@@ -146,13 +177,13 @@ def show_order(checks, program, work):
         chosen = chance.sample(texts, chance.choice([2, 3, 10, 40]))
         harms = []
         for text in chosen:
-            change, harm = ALTERED[chance.choice(sorted(ALTERED))]
+            change, harm = chance.choice(sorted(alterations(folder).items()))[1]
             alter(folder, blob(text), change)
             harms.append((harm, blob(text)))
         harms.sort(key=lambda harm: harm[1])
         checks.same(f"{number}: in order", told(*harms), live.asked(HOST, FSCK))
         checks.same(f"{number}: its end", done(), live.ended())
-        checks.same(f"{number}: a check tells the first", failed(b" ".join(harms[0]).decode()), program.checked(folder.path))
+        checks.same(f"{number}: a check tells the first", failed(b" ".join([at_start(folder, harms[0][0]), harms[0][1]]).decode()), program.checked(folder.path))
 
 
 def show_holders(checks, program, work):
@@ -160,9 +191,9 @@ def show_holders(checks, program, work):
     folder = Folder(os.path.join(work, "holders"))
     live = begun(checks, program, folder, ALICE, BOB, texts=[LARGE, SMALL])
     name = blob(LARGE)
-    remove(folder, name)
-    checks.same("told once", told((b"lost", name)), live.asked(HOST, FSCK))
-    for who, wanted in ((ALICE, told((b"lost", name))), (BOB, NOTHING)):
+    harm = spoil(folder, name)
+    checks.same("told once", told((harm, name)), live.asked(HOST, FSCK))
+    for who, wanted in ((ALICE, told((harm, name))), (BOB, NOTHING)):
         checks.same("a tag goes", NOTHING, live.asked(who, given_up(LARGE)))
         checks.same("a prune", NOTHING, live.asked(who, b"prune\n"))
         checks.same(f"without {who}", wanted, live.asked(HOST, FSCK))
@@ -211,14 +242,14 @@ def show_unchanged(checks, program, work):
         for text in dropped:
             live.asked(CAROL, b"push r\n\n" + record(b"blob", text))
         live.asked(CAROL, b"prune\n")
-        remove(folder, blob(texts[3]))
-        folder.keep(blob(texts[5]), b"blob 1\0x")
+        harm = spoil(folder, blob(texts[3]))
+        folder.flip(blob(texts[5]))
         said = []
         for _ in range(12):
             files = folder.files()
             if number:
-                harms = sorted([(blob(texts[3]), b"lost"), (blob(texts[5]), b"damaged")])
-                checks.same("told", told(*((harm, name) for name, harm in harms)), live.asked(HOST, FSCK))
+                harms = sorted([(blob(texts[3]), harm), (blob(texts[5]), b"damaged")])
+                checks.same("told", told(*((one, name) for name, one in harms)), live.asked(HOST, FSCK))
                 checks.same("files stay", files, folder.files())
             said.append(told_to(live, [*looks_of(*texts, *dropped), (HOST, b"sweep 3\n")]))
         said.append(live.asked(HOST, b"collect\n"))
@@ -290,9 +321,9 @@ def show_serving(checks, program, work):
     serving = Serving(program, os.path.join(work, "socket"), 3, "--dir", folder.path, *TENANTS)
     turns = [(ALICE, b"init r\n"), (ALICE, tagged(LARGE)), (HOST, FSCK)]
     checks.same("at first", ([NOTHING] * 3, b""), replies(serving.told(frames(turns))))
-    remove(folder, blob(LARGE))
+    harm = spoil(folder, blob(LARGE))
     for _ in range(2):
-        checks.same("lost", ([told((b"lost", blob(LARGE)))], b""), replies(serving.told(frame(HOST, FSCK))))
+        checks.same("told", ([told((harm, blob(LARGE)))], b""), replies(serving.told(frame(HOST, FSCK))))
     checks.same("its end", done(), serving.ended())
 
 
@@ -303,9 +334,9 @@ def held(folder):
 
 
 def harms_of(folder):
-    """What is wrong with the files of these, by a plain reader."""
+    """What is wrong with the files of these, by a plain reader. None can be gone from a segment that is there."""
     files = folder.files()
-    gone = [(b"lost", name) for name in held(folder) if name not in files]
+    gone = [(b"damaged" if folder.segments() else b"lost", name) for name in held(folder) if name not in files]
     bad = [(b"damaged", name) for name in held(folder) if name in files and not whole(name, files[name])]
     return sorted(gone + bad, key=lambda harm: harm[1])
 
@@ -324,11 +355,11 @@ def show_by_chance(checks, program, work):
             live.asked(ALICE, b"cat-file %s\n" % blob(chance.choice(texts)))
         for name in sorted(folder.files()):
             if chance.random() < 0.2:
-                alter(folder, name, ALTERED[chance.choice(sorted(ALTERED))][0])
+                alter(folder, name, chance.choice(sorted(alterations(folder).items()))[1][0])
         said = live.asked(HOST, FSCK)
         checks.same(f"{number}: its end", done(), live.ended())
         checks.same(f"{number}: as a plain reader", told(*harms_of(folder)), said)
         found = verdict(folder.state(), folder.files())
         checks.same(f"{number}: `check`", of_verdict(found, folder.again()), program.checked(folder.path))
         checks.same(f"{number}: both find something, or neither", said == NOTHING, found == "sound")
-        checks.same(f"{number}: what `check` finds is told", True, found == "sound" or found.encode() in said)
+        checks.same(f"{number}: what `check` finds is told", True, found == "sound" or found.split(" ")[1].encode() in said)

@@ -8,7 +8,7 @@ from folders.cases import C, D, OBJECTS, USED
 from lib.chained import bounds
 from folders.clients import ALICE, BOB, PUSH
 from folders.devices import homes
-from folders.killing import changes
+from folders.killing import answered
 from folders.sweeps import COUNT, HOST, show_collected
 from lib.folder import Folder, requests_in, write
 from lib.frames import frame, framed, frames, replies
@@ -35,8 +35,8 @@ def show_journal(checks, program, work):
     kept = frame(*INIT)
     checks.same("its journal has that request", kept, folder.journal())
     for who, payload in requests.turns(300):
-        reply = live.asked(who, payload)
-        kept += frame(who, payload) if changes(payload, reply) else b""
+        _, does = answered(live, who, payload)
+        kept += frame(who, payload) if does else b""
         checks.same(f"the journal after {payload[:20]!r}", kept, folder.journal())
     checks.same("bad requests are not in it", b"no bad-request\n", live.asked(ALICE, b"x" * 1000))
     checks.same("nor are the host's", b"no bad-request\n", live.asked(HOST, b"x"))
@@ -50,6 +50,18 @@ def show_journal(checks, program, work):
     checks.same("check leaves it", kept, folder.journal())
     checks.same("a start that serves nothing", done(), program.ran("run", "--dir", folder.path))
     checks.same("there is one journal after it", [os.path.basename(folder.journal_path())], folder.journals())
+
+
+def show_prunes(checks, program, work):
+    """However often a tenant prunes, only what removed something is in the journal."""
+    folder = Folder(os.path.join(work, "pruned"))
+    live = Live(program, "--dir", folder.path, "alice=60000")
+    turns = [INIT, (ALICE, PUSH), (ALICE, b"prune\n")]
+    for turn in [*turns, *[(ALICE, b"prune\n")] * 130]:
+        checks.same(f"{turn[1][:10]!r}", b"ok\n", live.asked(*turn))
+    killed(live)
+    checks.same("the journal has one prune", frames(turns), folder.journal())
+    checks.same("check counts it", sound(len(turns)), program.checked(folder.path))
 
 
 TURNS = [INIT, (ALICE, PUSH), (BOB, b"init s\n"), (ALICE, b"fork r s\n"), (BOB, b"part\nabc")]

@@ -31,6 +31,14 @@ def changes(payload, reply):
     return verb == b"part-end" or (verb in CHANGING and reply.startswith(b"ok\n"))
 
 
+def answered(live, who, payload):
+    """The reply to a request, and whether it changed what its tenant has. Of a prune the use tells."""
+    used = live.asked(who, b"quota\n")
+    reply = live.asked(who, payload)
+    is_same = payload == b"prune\n" and live.asked(who, b"quota\n") == used
+    return reply, changes(payload, reply) and not is_same
+
+
 def looks(history):
     """Requests that show all that the tenants have, and that change nothing."""
     asks = [b"%s %s\n" % (word, place) for word in (b"for-each-ref", b"head") for place in REPOSITORIES]

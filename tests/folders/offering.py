@@ -2,7 +2,7 @@
 import os
 
 from folders.cases import commit
-from folders.killing import changes
+from folders.killing import answered
 from folders.state_text import Offer, read
 from folders.sweeps import HOST
 from lib.folder import Folder
@@ -113,10 +113,11 @@ def show_killed_offers(checks, program, work):
         for number, turn in enumerate(turns):
             label = f"killed, with {limit} bytes, {number}, {turn[1][:20]!r}"
             live = Live(program, "--dir", folder.path, *words)
-            checks.same(label, turn[2], live.asked(*turn[:2]))
+            reply, does = answered(live, *turn[:2])
+            checks.same(label, turn[2], reply)
             live.child.kill()
             live.child.communicate()
-            words, does = [], changes(turn[1], turn[2])
+            words = []
             checks.same(f"{label}: the journal", frame(*turn[:2]) if does else b"", folder.journal())
             checks.same(f"{label}: check", sound(int(does)), program.checked(folder.path))
             checks.same(f"{label}: files that are torn", [], torn(folder))
@@ -127,12 +128,13 @@ def show_killed_offers(checks, program, work):
 def show_one_journal(checks, program, folder):
     """A whole row is in one journal, beside an open upload, and is repeated at once."""
     live = Live(program, "--dir", folder.path, "alice=1000", "bob=1000")
-    turns = [(BOB, b"part\nab", OK), *MADE, *TAKEN]
-    for turn in turns:
-        checks.same(f"one after another, {turn[1][:20]!r}", turn[2], live.asked(*turn[:2]))
+    kept = []
+    for turn in [(BOB, b"part\nab", OK), *MADE, *TAKEN]:
+        reply, does = answered(live, *turn[:2])
+        checks.same(f"one after another, {turn[1][:20]!r}", turn[2], reply)
+        kept += [turn] if does else []
     live.child.kill()
     live.child.communicate()
-    kept = [turn for turn in turns if changes(turn[1], turn[2])]
     checks.same("what the journal has", asked(kept), folder.journal())
     checks.same("check of it", sound(len(kept)), program.checked(folder.path))
     looks = [turn for turn in TAKEN[-3:] if turn[1] != b"offer r nobody\n"]

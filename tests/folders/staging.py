@@ -5,7 +5,7 @@ import re
 import time
 
 from folders.cases import B, C, D, OBJECTS, O, T
-from lib.folder import Folder, content, write
+from lib.folder import Folder
 from lib.frames import frame, framed, frames
 from lib.live import Live, Serving
 from lib.objects import name_of, record, stored
@@ -51,7 +51,7 @@ def show_staged(checks, program, work):
         if number % 2:
             checks.same(f"{number}: it goes", b"ok\n", live.asked(ALICE, b"part-drop\n"))
             checks.same(f"{number}: and what came", b"ok\n%d\n" % len(ORDER), live.asked(HOST, b"collect\n"))
-            checks.same(f"{number}: nothing is left", {}, folder.files())
+            checks.same(f"{number}: nothing is left", {}, folder.live())
         else:
             checks.same(f"{number}: its end", b"ok\n", live.asked(ALICE, b"part-end r\n"))
             checks.same(f"{number}: it is seen", b"ok\n" + RECORDS[-1], live.asked(ALICE, b"cat-file %s\n" % D))
@@ -67,7 +67,7 @@ def show_broken(checks, program, work):
         checks.same("one that is wrong", b"ok\n", live.asked(ALICE, b"part\nzz\n"))
         checks.same("what came goes", b"ok\n%d\n" % number, live.asked(HOST, b"collect\n"))
         checks.same("one more", b"ok\n", live.asked(ALICE, b"part\n" + b"".join(RECORDS)))
-        checks.same("nothing came with it", {}, folder.files())
+        checks.same("nothing came with it", {}, folder.live())
         checks.same("its end", b"no syntax\n", live.asked(ALICE, b"part-end r\n"))
         checks.same("the end", done(), live.ended())
 
@@ -79,11 +79,10 @@ def show_altered(checks, program, work):
     for piece in (BODY[: ENDS[20]], BODY[ENDS[20] :]):
         checks.same("a part", b"ok\n", live.asked(ALICE, b"part\n" + piece))
     for name in (T, C, D):
-        whole = content(folder.file_of(name))
-        write(folder.file_of(name), whole[:-1] + bytes([whole[-1] ^ 1]))
+        folder.flip(name)
         checks.same("an end over an altered file", b"host damaged\n", live.asked(ALICE, b"part-end r\n"))
         checks.same("the upload stays", b"no upload-open\n", live.asked(ALICE, b"push r\n\n"))
-        write(folder.file_of(name), whole)
+        folder.flip(name)
     checks.same("its end", b"ok\n", live.asked(ALICE, b"part-end r\n"))
     checks.same("the end", done(), live.ended())
 
@@ -120,7 +119,7 @@ def show_ended(checks, program, work):
         checks.same("or to drop", b"no no-upload\n", live.asked(ALICE, b"part-drop\n"))
         if count % 2:
             checks.same("what came goes", b"ok\n%d\n" % count, live.asked(HOST, b"collect\n"))
-            checks.same("none is left", {}, folder.files())
+            checks.same("none is left", {}, folder.live())
         checks.same("a push of all", b"ok\n", live.asked(ALICE, b"push r\n" + BODY))
         checks.same("it is seen", b"ok\n" + RECORDS[-1], live.asked(ALICE, b"cat-file %s\n" % D))
         checks.same("nothing goes", b"ok\n0\n", live.asked(HOST, b"collect\n"))
@@ -172,14 +171,14 @@ def show_unreadable(checks, program, work):
     ok = framed(b"ok\n")
     sent = frames([(ALICE, b"init r\n"), (ALICE, b"part\n" + BODY), (BOB, b"init r\n")])
     checks.same("an upload", ok * 3, serving.told(sent))
-    whole, state = content(folder.file_of(D)), folder.state()
-    write(folder.file_of(D), whole[:-1])
+    state = folder.state()
+    folder.flip(D)
     large = [record(b"blob", random.Random(number).randbytes(900_000)) for number in range(4)]
     for number, text in enumerate(large[:2]):
         checks.same(f"a push of another one, {number}", ok, serving.told(frame(BOB, b"push r\n\n" + text)))
     checks.same("the state stays, however long the journal is", (state, True), (folder.state(), len(folder.journal()) > MIB))
     checks.same("what was pushed", framed(b"ok\n" + large[0]), serving.told(frame(BOB, b"cat-file " + large[0][:64] + b"\n")))
-    write(folder.file_of(D), whole)
+    folder.flip(D)
     checks.same("one push more", ok, serving.told(frame(BOB, b"push r\n\n" + large[2])))
     checks.same("the upload's end", ok, serving.told(frame(ALICE, b"part-end r\n")))
     checks.same("it was saved before that", False, folder.state() == state)

@@ -7,14 +7,16 @@ from lib.checks import Checks
 
 PATH = os.pathsep.join([os.environ.get("PATH", os.defpath), "/usr/sbin", "/usr/lib/git-core"])
 
+# As root alone: apt's own user may have no right to write files in /tmp.
+APT = ["apt-get", "-qq", "-o", "APT::Sandbox::User=root"]
+
 
 def found(name, package):
     """The path of a program. If its package cannot be installed either, that is a failure, and never skipped."""
     if not shutil.which(name, path=PATH):
-        install = ["apt-get", "install", "-y", "-qq", "--no-install-recommends", package]
         outer = {**os.environ, "DEBIAN_FRONTEND": "noninteractive"}
-        for words in (["apt-get", "update", "-qq"], install):
-            subprocess.run(words, env=outer, stdin=subprocess.DEVNULL, stdout=subprocess.DEVNULL, timeout=120)
+        for words in (["update"], ["install", "-y", "--no-install-recommends", package]):
+            subprocess.run([*APT, *words], env=outer, stdin=subprocess.DEVNULL, stdout=subprocess.DEVNULL, timeout=120)
     path = shutil.which(name, path=PATH)
     if not path:
         raise ValueError(f"{name} is not there, and apt-get did not install {package}")

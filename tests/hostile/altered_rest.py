@@ -51,7 +51,7 @@ def show_state_things(checks, program, work):
     """Something that is not a file is in the state's place: it cannot be read, and stays."""
     store, chance = Store(work), random.Random(28)
     wanted = {kind: [failed("state unreadable")] for kind in UNREADABLE}
-    wanted |= {"longer than memory": [failed("memory"), failed("state unreadable")]}
+    wanted |= {"longer than memory": [failed("state line 1")]}
     wanted |= {"a link to a copy": [sound(), failed("state unreadable")]}
     wanted |= {"a link to nothing": [failed("no state"), failed("state unreadable")]}
     for number, (kind, ends) in enumerate(wanted.items()):
@@ -61,7 +61,7 @@ def show_state_things(checks, program, work):
         before = os.lstat(path)
         label = f"{kind} in the state's place"
         one_of(checks, f"check, {label}", ends, program.tried(f"check {label}", "check", "--dir", folder.path))
-        if ends == [failed("state unreadable")]:
+        if len(ends) == 1 and ends[0].fault:
             told = program.tried(f"run {label}", "run", "--dir", folder.path, given=frame(ALICE, b"quota\n"))
             checks.same(f"run, {label}", ends[0], told)
             after = os.lstat(path)

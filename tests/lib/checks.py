@@ -18,6 +18,8 @@ def shown(value):
 class Checks:
     def __init__(self):
         self.passed = self.failed = 0
+        # What each failure begins with.
+        self.kind = ""
 
     def same(self, label, wanted, told):
         """One check: the value is the wanted one."""
@@ -29,7 +31,7 @@ class Checks:
             self.passed += 1
         else:
             self.failed += 1
-            print(f"failed: {label}: {why}", flush=True)
+            print(f"failed: {self.kind}{label}: {why}", flush=True)
 
     def add(self, passed, failed):
         """Checks that were counted elsewhere."""
@@ -38,6 +40,13 @@ class Checks:
     def show(self, shows, program):
         """Shows each subject, and ends."""
         self.run(shows, program)
+        self.end()
+
+    def show_both(self, shows, program, loose=()):
+        """Shows each subject over folders with a file for each object and over packed ones, some over the first alone, and ends."""
+        self.run((*shows, *loose), program)
+        self.kind = "packed: "
+        self.run(shows, program.packed())
         self.end()
 
     def show_at_once(self, shows, count, world=None):

@@ -5,6 +5,7 @@ import re
 
 from lib.chained import LINE as FIRST, first_line, log, pieces_in
 from lib.objects import name_of, stored
+from lib.packed import Segments
 
 LINE = re.compile(rb"([a-z0-9][a-z0-9_-]{0,31}|@host) (0|[1-9][0-9]{0,6})\n")
 
@@ -29,20 +30,28 @@ def write(path, data):
 
 
 class Folder:
+    """A folder with a file for each object, or with segments."""
+
     def __init__(self, path):
         self.path = str(path)
-        os.makedirs(self.inside("objects"), exist_ok=True)
+        os.makedirs(self.path, exist_ok=True)
         os.chmod(self.path, 0o700)
 
     def inside(self, *names):
         return os.path.join(self.path, *names)
 
+    def segments(self):
+        """Its segments, or nothing if it has a file for each object."""
+        return Segments(self.inside("segments")) if os.path.isdir(self.inside("segments")) else None
+
     def file_of(self, name):
-        """The path of an object's file."""
+        """The path of an object's file, if it has one of its own."""
         digits = name.decode()
         return self.inside("objects", digits[:2], digits[2:])
 
     def keep(self, name, data):
+        if segments := self.segments():
+            return segments.keep(name, data)
         os.makedirs(os.path.dirname(self.file_of(name)), exist_ok=True)
         write(self.file_of(name), data)
 
@@ -103,13 +112,44 @@ class Folder:
 
     def files(self):
         """The bytes of each file in the place of an object, by its name."""
+        if segments := self.segments():
+            return segments.files()
         found = {}
-        for front in os.listdir(self.inside("objects")):
+        for front in os.listdir(self.inside("objects")) if os.path.isdir(self.inside("objects")) else ():
             for rest in os.listdir(self.inside("objects", front)):
                 name = (front + rest).encode()
                 if len(name) == 64:
                     found[name] = content(self.file_of(name))
         return found
+
+    def live(self):
+        """The files of a host that runs since these were swept: without what is swept."""
+        return segments.live() if (segments := self.segments()) else self.files()
+
+    def place_of(self, name):
+        """The file that has an object's bytes, where in it they begin, and how many they are."""
+        if segments := self.segments():
+            return segments.place_of(name)
+        return self.file_of(name), 0, os.path.getsize(self.file_of(name))
+
+    def content_of(self, name):
+        """The bytes in an object's place."""
+        path, at, length = self.place_of(name)
+        return content(path)[at : at + length]
+
+    def write_over(self, name, data):
+        """Writes as many other bytes in an object's place, also while a host runs."""
+        path, at, length = self.place_of(name)
+        if len(data) != length:
+            raise ValueError(f"{len(data)} bytes in the place of {length}")
+        with open(path, "r+b") as file:
+            file.seek(at)
+            file.write(data)
+
+    def flip(self, name):
+        """Alters the last byte of an object's file, or makes it again what it was."""
+        data = self.content_of(name)
+        self.write_over(name, data[:-1] + bytes([data[-1] ^ 1]))
 
     def swept_path(self, name):
         """The path of an object's file once it is swept."""
@@ -117,11 +157,15 @@ class Folder:
 
     def sweep(self, name):
         """Takes an object's file away as a sweep does."""
+        if segments := self.segments():
+            return segments.remove(name)
         os.makedirs(self.inside("swept"), exist_ok=True)
         os.rename(self.file_of(name), self.swept_path(name))
 
     def swept(self):
         """The names of the files that are swept."""
+        if segments := self.segments():
+            return segments.removed()
         home = self.inside("swept")
         return sorted(os.listdir(home)) if os.path.exists(home) else []
 

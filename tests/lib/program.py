@@ -53,6 +53,10 @@ class Program:
         """The same program, which is given these words too behind those of a command."""
         return Program(self.path, more)
 
+    def packed(self):
+        """The same program, which keeps the objects of new folders in segments."""
+        return self.with_words(run=("--packed",), serve=("--packed",))
+
     def given(self, *words):
         """What is run for the words of a command."""
         return [self.path, *words, *self.more.get(words[0] if words else "", ())]

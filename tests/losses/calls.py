@@ -73,8 +73,8 @@ def calls_in(path):
 class Traced(Program):
     """The program under strace. `kill` kills it, and not strace; the log goes on until its end."""
 
-    def __init__(self, path, work):
-        super().__init__(path)
+    def __init__(self, program, work):
+        super().__init__(program.path, program.more)
         self.work, self.count = work, 0
 
     def log(self):
@@ -82,7 +82,7 @@ class Traced(Program):
 
     def begun(self, *words, stdin=subprocess.PIPE, stdout=subprocess.PIPE):
         self.count += 1
-        given = [*STRACE, "-o", self.log(), *LIMITED, self.path, *words]
+        given = [*STRACE, "-o", self.log(), *LIMITED, *self.given(*words)]
         child = subprocess.Popen(given, stdin=stdin, stdout=stdout, stderr=subprocess.PIPE)
         self.running.append(child)
         until(lambda: os.path.exists(self.log()) or child.poll() is not None)

@@ -124,16 +124,16 @@ def savings_of(past):
 
 
 def is_state_to_come(past, moments, at):
-    """Whether after a journal got its name a state does, before anything is done."""
+    """Whether after a journal got its name a state does, before anything is done. A part that is removed is none to come."""
     for event in past.events[at:]:
         if isinstance(event, Told):
             return False
         if isinstance(event, Named):
-            for folder, name, inode in event.entries:
-                if folder == moments.at() and name in (b"state", b"part"):
-                    return True
-                if folder == moments.at(b"journal"):
-                    return False
+            changed = {name: inode for folder, name, inode in event.entries if folder == moments.at()}
+            if b"state" in changed or b"part" in changed:
+                return changed.get(b"state") is not None
+            if any(folder == moments.at(b"journal") for folder, _, _ in event.entries):
+                return False
     return False
 
 

@@ -2,7 +2,7 @@
 
 In both models a sync keeps what was there then: that of a file its bytes, that of a folder the names in it. A folder whose own
 name is lost is lost with all in it. A file of which nothing was synced may have any bytes. Bytes that were added to the end of
-what was synced are lost from the end.
+what was synced are lost from the end; but where they were added to a segment, any bytes may be in their place.
 
 - `posix`: each change of names that was not synced happened or not, whatever was changed before or after it. A rename is one
   change of both names.
@@ -11,6 +11,7 @@ what was synced are lost from the end.
 from typing import NamedTuple
 
 from losses.past import ROOT, Cut, Named, Synced, Wrote, over
+from losses.syncing import MADE, SEGMENTS, kinds_of
 
 SECTOR = 512
 NEAR = 200
@@ -91,7 +92,7 @@ def contents_of(past, events):
 
 
 def torn(chance, data):
-    """Bytes of a file of which nothing was synced, as the disk may have them."""
+    """Bytes of which nothing was synced, as the disk may have them."""
     cut = chance.randint(0, len(data))
     front = bytes(data[:cut])
     ways = [b"", front, bytes(len(data)), front + bytes(len(data) - cut), with_holes(chance, data), chance.randbytes(len(data))]
@@ -121,6 +122,13 @@ def bytes_left(chance, model, content):
     return data, bytes(chance.choice([0, lost, chance.randint(0, lost)]) if model == "ext4" else 0)
 
 
+def segment_left(chance, content):
+    """The bytes of a segment that was not synced to its end."""
+    if not content.is_added:
+        raise ValueError("a segment is written over")
+    return bytes(content.synced) + torn(chance, content.written[len(content.synced) :]), b""
+
+
 def left(chance, model, past, events):
     """What may be left after these events, the first ones of a past."""
     synced = syncs_of(events)
@@ -128,7 +136,10 @@ def left(chance, model, past, events):
     contents = contents_of(past, events)
     lost = lose(chance, [file for file, content in contents.items() if not content.is_known])
     data = {file: (bytes(content.written), b"") for file, content in contents.items()}
-    data |= {file: bytes_left(chance, model, contents[file]) for file in sorted(lost)}
+    kinds = kinds_of(past)
+    for file in sorted(lost):
+        is_segment = kinds.get(file) in (SEGMENTS, MADE)
+        data[file] = segment_left(chance, contents[file]) if is_segment else bytes_left(chance, model, contents[file])
     zeros = {}
     return Left(tree_at(names, data, zeros, ROOT, b""), zeros)
 

@@ -11,20 +11,21 @@ from losses.knowing import Known
 from losses.leaving import Left, left
 from losses.past import Named, Synced, Wrote
 from losses.recording import GRANTS, PLACE, Recording, write_tree
-from losses.syncing import KINDS, NOTHING, without
+from losses.syncing import NOTHING, without
 
 MODELS = ["posix", "ext4"]
 NEAR = 12
 GENERATIONS = 2
-# How many folders are made without the syncs of one kind, until one is wrong.
-TRIES = 3
-
 
 class Way(NamedTuple):
-    """How hosts serve, how many folders are judged of each recording, and where wrong ones are kept."""
+    """How hosts serve, whether their folders are repacked between, which kinds of syncs they make, how many folders are judged of
+    each recording, how many are made without the syncs of one kind until one is wrong, and where wrong ones are kept."""
 
     sync: list
+    repacks: bool
+    kinds: list
     folders: int
+    tries: int
     kept: str
 
 
@@ -101,7 +102,7 @@ class Life:
 
     def generation(self, label, home):
         """Serves for some time, and judges folders that may be left. Those on which a host may go on, and what it did."""
-        recording = Recording(self.program, home, self.chance, self.tree, self.way.sync)
+        recording = Recording(self.program, home, self.chance, self.tree, self.way)
         recording.serve(GRANTS if self.before is None else [])
         past, known = recording.past, Known(self.program, recording, self.before)
         judge = Judge(self.program, home, known, self.way.sync)
@@ -109,7 +110,7 @@ class Life:
         self.found.note(f"{label}: what was recorded", why or self.why_not_all(known, count))
         goes_on = list(self.judged(label, judge, past, known))
         self.found.reported += judge.reported
-        for kind in KINDS:
+        for kind in self.way.kinds:
             self.miss(label, judge, past, kind)
         return goes_on
 
@@ -141,7 +142,9 @@ class Life:
         if other is None:
             return
         self.found.made.add(kind)
-        for number in range(TRIES):
+        if kind in self.found.missed:
+            return
+        for number in range(self.way.tries):
             chance = random.Random(f"{label}, {kind}, {number}")
             moment, model = moment_after(chance, other), chance.choice(MODELS)
             folder = left(chance, model, other, events_before(chance, other, moment))

@@ -38,6 +38,7 @@ class Told(NamedTuple):
 
 class Opened(NamedTuple):
     inode: int
+    # Where the next byte is read or written; None if each write goes to the end.
     at: int
 
 
@@ -75,11 +76,15 @@ class Past:
             return bytes(self.bytes[inode])
         return {name: self.tree(inner) for name, inner in self.names[inode].items()}
 
-    def place(self, path):
-        """The folder and the name of a path; None outside of what is looked at."""
-        if not (path + b"/").startswith(self.path + b"/"):
+    def place(self, path, given="AT_FDCWD"):
+        """The folder and the name of a path, which may be one in a folder that is open; None outside of what is looked at."""
+        if (path + b"/").startswith(self.path + b"/"):
+            folder, path = ROOT, path[len(self.path) :]
+        elif given.isdigit() and isinstance(self.descriptors.get(int(given)), Opened):
+            folder = self.descriptors[int(given)].inode
+        else:
             return None
-        folder, inner = ROOT, [part for part in path[len(self.path) :].split(b"/") if part]
+        inner = [part for part in path.split(b"/") if part not in (b"", b".")]
         for part in inner[:-1]:
             folder = self.names[folder][part]
         return folder, inner[-1] if inner else b""
@@ -121,7 +126,11 @@ class Past:
     def length_of(self, call, tree):
         """How many bytes a call wrote that was not seen to return, by the file's length; any number for other calls."""
         file = self.descriptors.get(int(call.words[0])) if call.name in ("write", "writev") else None
-        return len(self.found(tree, ROOT, file.inode)) - file.at if isinstance(file, Opened) else 0
+        return len(self.found(tree, ROOT, file.inode)) - self.place_in(file) if isinstance(file, Opened) else 0
+
+    def place_in(self, file):
+        """Where the next byte is written."""
+        return len(self.bytes[file.inode]) if file.at is None else file.at
 
     def found(self, tree, folder, inode):
         """The bytes that a file has in a tree."""
@@ -150,7 +159,7 @@ def unknown(past, call):
 
 
 def do_open(past, call):
-    place, flags = past.place(call.texts[0]), call.words[2].split("|")
+    place, flags = past.place(call.texts[0], call.words[0]), call.words[2].split("|")
     if place is None:
         past.descriptors.pop(call.result, None)
         return
@@ -160,9 +169,7 @@ def do_open(past, call):
         past.happened(Named(((*place, inode),)))
     elif "O_TRUNC" in flags and past.bytes[inode]:
         past.happened(Cut(inode, 0))
-    if "O_APPEND" in flags:
-        raise ValueError("a file is opened to append")
-    past.descriptors[call.result] = Opened(inode, 0)
+    past.descriptors[call.result] = Opened(inode, None if "O_APPEND" in flags else 0)
 
 
 def do_close(past, call):
@@ -173,15 +180,17 @@ def do_write(past, call):
     number = int(call.words[0])
     file, data = past.descriptors.get(number), b"".join(call.texts)[: call.result]
     if isinstance(file, Opened):
-        past.happened(Wrote(file.inode, file.at, data))
-        past.descriptors[number] = file._replace(at=file.at + len(data))
+        at = past.place_in(file)
+        past.happened(Wrote(file.inode, at, data))
+        past.descriptors[number] = file._replace(at=None if file.at is None else at + len(data))
     elif file is not None:
         past.happened(Told(0 if file == "out" else file, data))
 
 
 def do_seek(past, call):
-    if isinstance(past.descriptors.get(int(call.words[0])), Opened) and call.words[1:] != ["0", "SEEK_CUR"]:
-        raise ValueError("a file is sought in")
+    file = past.descriptors.get(int(call.words[0]))
+    if isinstance(file, Opened) and file.at is not None:
+        past.descriptors[int(call.words[0])] = file._replace(at=call.result)
 
 
 def do_sync(past, call):
@@ -202,7 +211,7 @@ def do_rename(past, call):
 
 
 def do_remove(past, call):
-    place = past.place(call.texts[0])
+    place = past.place(call.texts[0], call.words[0])
     if place is not None:
         past.happened(Named(((*place, None),)))
 

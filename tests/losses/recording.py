@@ -1,4 +1,5 @@
 """A host over a folder that serves random requests under strace, and is killed or ended, and begun again."""
+import contextlib
 import os
 import shutil
 import subprocess
@@ -62,9 +63,9 @@ class Leg:
 class Recording:
     """Some processes over one folder, one after another, and its past."""
 
-    def __init__(self, program, work, chance, tree, sync):
-        self.program, self.chance, self.sync = Traced(program.path, work), chance, sync
-        self.is_run = takes(program, "run", sync)
+    def __init__(self, program, work, chance, tree, way):
+        self.program, self.chance, self.sync, self.repacks = Traced(program, work), chance, way.sync, way.repacks
+        self.is_run = takes(program, "run", self.sync)
         # Sockets have short paths.
         self.path, self.socket = os.path.join(work, "disk"), os.path.join(work, "s")
         write_tree(os.fsencode(self.path), tree)
@@ -90,7 +91,9 @@ class Recording:
     def ways(self, grants):
         """What a process may do. One that adds tenants serves at a socket, where it has saved them before it can be killed."""
         serving = [self.one_after_another, self.at_once] * 2
-        return serving if grants else [*serving, self.by_upgrade, *([self.by_run] if self.is_run else [])]
+        if grants:
+            return serving
+        return [*serving, self.by_upgrade, *([self.by_run] if self.is_run else []), *([self.by_repack] * 4 if self.repacks else [])]
 
     def turns(self, least):
         """Random requests, and sometimes an object among them that is pruned, swept and pushed again, once or twice."""
@@ -105,36 +108,57 @@ class Recording:
         return DROPS if leg is self.legs[0] else []
 
     def by_run(self, leg, words):
-        """A session, which may be killed."""
+        """A session, which may be killed. Then its input does not end: of one that is killed while it ends nobody can tell whether
+        its open uploads went."""
         leg.asked = [self.first(leg) + self.turns(5)]
         child = self.program.begun("run", *words, *self.sync)
         given = frames(leg.asked[0])
-        wait = self.chance.uniform(0, 0.002) * len(leg.asked[0])
+        if self.chance.random() < KILLED:
+            self.killed(child, given, self.chance.uniform(0, 0.002) * len(leg.asked[0]))
+        else:
+            child.communicate(given)
+        leg.ended(child)
+
+    def killed(self, child, given, wait):
+        """Gives a process its input, and kills it after so many seconds."""
+        stream, child.stdin = child.stdin, None
+        giving = threading.Thread(target=give, args=[stream, given])
+        giving.start()
         try:
-            child.communicate(given, timeout=wait if self.chance.random() < KILLED else None)
+            child.communicate(timeout=wait)
         except subprocess.TimeoutExpired:
             child.kill()
-        leg.ended(child)
+        giving.join()
+        with contextlib.suppress(OSError):
+            stream.close()
 
     def by_upgrade(self, _leg, words):
         """A process that saves what the folder keeps, with its open uploads, and serves nothing."""
         self.program.begun("upgrade", *words).communicate()
 
+    def by_repack(self, _leg, words):
+        """A process that gives the folder one layout or the other, and serves nothing. It may be killed."""
+        child = self.program.begun("repack", *self.chance.choice([[], ["--packed"]]), *words)
+        if self.chance.random() < KILLED:
+            time.sleep(self.chance.uniform(0, 0.05))
+            child.kill()
+        child.communicate()
+
     def one_after_another(self, leg, words):
-        """Some connections, one after another, of which each asks for all tenants."""
-        leg.asked = [self.first(leg) + self.turns(1) for _ in range(self.chance.randint(1, 4))]
-        serving = Serving(self.program, self.socket, len(leg.asked), *words, *self.sync)
+        """Some connections, one after another, of which each asks for all tenants. A process that is killed waits for one more."""
+        leg.asked, is_killed = [self.first(leg) + self.turns(1) for _ in range(self.chance.randint(1, 4))], self.chance.random() < KILLED
+        serving = Serving(self.program, self.socket, len(leg.asked) + is_killed, *words, *self.sync)
         for asked in leg.asked[:-1]:
             self.talk(serving, [asked], False)
-        self.talk(serving, leg.asked[-1:], self.chance.random() < KILLED)
+        self.talk(serving, leg.asked[-1:], is_killed)
         leg.ended(serving.child)
 
     def at_once(self, leg, words):
         """A connection for each tenant, and one of the host's own, all at once."""
-        asked = self.first(leg) + self.turns(20)
+        asked, is_killed = self.first(leg) + self.turns(20), self.chance.random() < KILLED
         leg.asked = [[turn for turn in asked if turn[0] == who] for who in (*TENANTS, HOST)]
-        serving = Serving(self.program, self.socket, len(leg.asked), *AT_ONCE, *words, *self.sync)
-        self.talk(serving, leg.asked, self.chance.random() < KILLED)
+        serving = Serving(self.program, self.socket, len(leg.asked) + is_killed, *AT_ONCE, *words, *self.sync)
+        self.talk(serving, leg.asked, is_killed)
         leg.ended(serving.child)
 
     def talk(self, serving, parts, is_killed):
@@ -156,6 +180,13 @@ class Recording:
             self.past.take(call)
         self.past.settle(read_tree(os.fsencode(self.path)))
         leg.end = len(self.past.events)
+
+
+def give(stream, given):
+    """Writes all to a process that may be killed meanwhile."""
+    with contextlib.suppress(OSError):
+        stream.write(given)
+        stream.flush()
 
 
 def talk(stream, turns):

@@ -4,11 +4,10 @@ import tempfile
 from concurrent.futures import ProcessPoolExecutor
 from itertools import repeat
 
-from lib.program import Program
 from losses.lives import Found, Life, Way
-from losses.syncing import KINDS
+from losses.syncing import BESIDE, LOOSE, PACKED, REPACKED
 
-LIVES, FOLDERS = 20, 40
+LIVES, FOLDERS, TRIES = 20, 40, 6
 # A folder in memory, where a sync costs nothing, is used if there is so much space.
 MEMORY, SPACE = "/dev/shm", 1 << 30
 LONGEST = 300
@@ -22,9 +21,8 @@ def place():
     return MEMORY if there.f_bavail * there.f_frsize >= SPACE else None
 
 
-def lived(path, seed, way):
+def lived(program, seed, way):
     """What is found in one life, and the error at which it broke off, or None."""
-    program = Program(path)
     with tempfile.TemporaryDirectory(dir=place()) as work:
         life, broken = Life(program, work, seed, way), None
         try:
@@ -35,27 +33,30 @@ def lived(path, seed, way):
         return life.found, broken
 
 
-def found_of(path, seed, way):
+def found_of(program, seed, way):
     """What is found in one life. If it only broke off, as when strace on a busy machine misses a call of a process that is
     killed, it is lived once more."""
-    found, broken = lived(path, seed, way)
+    found, broken = lived(program, seed, way)
     if broken and not found.wrong:
-        found, broken = lived(path, seed, way)
+        found, broken = lived(program, seed, way)
     if broken:
         found.note(seed, f"a life breaks off: {broken!r}"[:LONGEST])
     return found
 
 
-def show(checks, path, label, seed, sync, kept):
-    """All lives of hosts that serve in one way."""
-    found, way = Found(), Way(sync, FOLDERS, kept)
+def show(checks, program, label, seed, sync, kept, repacks=False):
+    """All lives of hosts that serve in one way. Where folders are repacked between, half as many, and four times the tries: few
+    moments are such that a repack has no sync to spare."""
+    kinds = REPACKED if repacks else [*(PACKED if program.more else LOOSE), *BESIDE]
+    lives, tries = (LIVES // 2, TRIES * 4) if repacks else (LIVES, TRIES)
+    found, way = Found(), Way(sync, repacks, kinds, FOLDERS, tries, kept)
     with ProcessPoolExecutor(os.cpu_count()) as pool:
-        for one in pool.map(found_of, repeat(path), (f"{label}, {seed}.{number}" for number in range(LIVES)), repeat(way)):
+        for one in pool.map(found_of, repeat(program), (f"{label}, {seed}.{number}" for number in range(lives)), repeat(way)):
             found.add(one)
     checks.add(found.right, 0)
     for why, count in found.wrong.most_common():
         checks.holds(f"{label}: {why}", f"{count} times, as in {found.first[why]}")
-    checks.same(f"{label}: each kind of sync is made", [], [kind for kind in KINDS if kind not in found.made])
+    checks.same(f"{label}: each kind of sync is made", [], [kind for kind in kinds if kind not in found.made])
     for kind in sorted(found.made):
         checks.same(f"{label}: a start is wrong without the syncs of {kind}", True, kind in found.missed)
     print(f"{label}: {found.right + found.wrong.total()} folders; {found.reported} had a few zero bytes that were reported", flush=True)

@@ -5,8 +5,12 @@ from losses.past import ROOT, Named, Synced
 from losses.recording import PLACE
 
 OBJECTS, FRONTS, FOLDER = "objects", "the folders of objects", "the folder of these"
+SEGMENTS, SEGMENT = "segments", "the folder of segments"
+# All that `repack` makes. Its files keep the name under which they were made: that of their folder changes.
+MADE = "what is repacked"
 JOURNALS, JOURNAL, STATES, HOST = "journals", "the folder of journals", "states", "the folder of a host"
-KINDS = [OBJECTS, FRONTS, FOLDER, JOURNALS, JOURNAL, STATES, HOST]
+LOOSE, PACKED, REPACKED = [OBJECTS, FRONTS, FOLDER], [SEGMENTS, SEGMENT], [MADE]
+BESIDE = [JOURNALS, JOURNAL, STATES, HOST]
 # What stands for a sync that is left out.
 NOTHING = Synced(-1)
 
@@ -27,6 +31,10 @@ def kinds_of(past):
 def kind_of(place):
     if place[:1] == (b"objects",):
         return [FOLDER, FRONTS, OBJECTS][len(place) - 1]
+    if place[:1] == (b"segments",):
+        return [SEGMENT, SEGMENTS][len(place) - 1]
+    if place[:1] == (b"repack",):
+        return MADE
     if place[:1] == (b"swept",):
         return [None, OBJECTS][len(place) - 1]
     if place[:1] == (b"journal",):

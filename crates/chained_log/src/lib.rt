@@ -3,9 +3,9 @@
 #![tactic(auto)]
 
 mod fault;
+mod format;
 mod laws;
 mod next;
-mod piece;
 mod reader;
 mod sums;
 mod sync;

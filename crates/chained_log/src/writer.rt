@@ -3,7 +3,7 @@ ghost use Rattle.std.specs.Io.{WritesAtMost};
 ghost use Rattle.std.specs.Io.KnownBytes.{Appends, Keeps, WriteAppends};
 ghost use Rattle.chained_log.specs.Log.{piece_bytes, sum_after};
 
-use crate::piece::put_piece;
+use crate::format::put_piece;
 use crate::sums::{LONGEST, ROOM};
 use crate::sync::SyncData;
 use std::alloc::{AllocError, Global};

@@ -1,10 +1,12 @@
 -- What is done to a device (own): effects on files by their paths, the newest first, and the files that they make.
 -- A path is relative to the folder of the device. A folder is written with a slash at its end, and the device's own as nothing.
-use Rattle.std.specs.Prelude.{◌≡◌, ◌⊎◌, ℕ, cond, nat_eq, nat_le, List, [], ◌∷◌, ◌++◌, Option, Some, None, Result, Ok, Err, take, drop, length, flat_map}
+use Rattle.std.specs.Prelude.{◌≡◌, ◌≢◌, ◌⊎◌, ◌+◌, ℕ, cond, nat_eq, nat_le, List, [], ◌∷◌, ◌++◌, Option, Some, None, Result, Ok, Err, IfErr, take, drop, length, flat_map}
 use Rattle.std.specs.List.{list_any}
 use Rattle.std.specs.FinMap.{FinMap, get, insert, remove}
 use Rattle.std.specs.Ordering.{nat_cmp}
 use Rattle.std.specs.Cmp.Lexicographic.{slice_cmp, pointwise}
+use Rattle.devices.specs.declared.device.DeviceFault.{DeviceFault}
+use Rattle.devices.specs.declared.device.DeviceFault.TheVariants.{Device}
 
 -- bytes by path
 abbrev pub Files : Type 0
@@ -71,9 +73,17 @@ abbrev pub Does : {A E : Type 0} → Effect → Past → Past → Result A E →
 Does effect old new (Ok answer) = new ≡ with_effect old effect
 Does effect old new (Err fault) = (new ≡ old) ⊎ ((part : Effect) × IsPart effect part × (new ≡ with_effect old part))
 
+-- unless the fault is `Device`, nothing was tried
+abbrev pub Untried : {A : Type 0} → Past → Past → Result A DeviceFault → Type 0
+Untried old new result = IfErr result (λ fault. fault ≢ Device → new ≡ old)
+
 -- the bytes of a file that a read with this bound returns: none if there are more
 abbrev pub within : ℕ → List ℕ → List ℕ
 within most bytes = cond (nat_le (length bytes) most) bytes []
+
+-- these bytes of a file, if it has so many
+abbrev pub part_of : ℕ → ℕ → List ℕ → Option (List ℕ)
+part_of at len bytes = cond (nat_le (at + len) (length bytes)) (Some (take len (drop at bytes))) None
 
 -- a name, or none
 abbrev pub names_of : Option (List ℕ) → List (List ℕ)

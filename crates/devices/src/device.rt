@@ -1,6 +1,6 @@
-ghost use Rattle.std.specs.Prelude.{◌≡◌, Bool, IsTrue, IfOk, map as each, option_map};
+ghost use Rattle.std.specs.Prelude.{◌≡◌, Bool, IsTrue, IfOk, map as each, option_and_then, option_map};
 ghost use Rattle.std.specs.FinMap as map;
-ghost use Rattle.devices.specs.Device.{Past, Does, Wrote, Added, Moved, Removed, SyncedFile, SyncedFolder, files_of, names_in_folder, within};
+ghost use Rattle.devices.specs.Device.{Past, Does, Wrote, Added, Moved, Removed, SyncedFile, SyncedFolder, Untried, files_of, names_in_folder, part_of, within};
 
 use std::alloc::{AllocError, AllocFailed, Global};
 use thiserror::Error;
@@ -45,6 +45,18 @@ pub trait Device {
         ensures kept { IsTrue (honest self.old) → past self.new ≡ past self.old }
         ensures honest { honest self.new ≡ honest self.old };
 
+    /// A part of a file: so many bytes from a place on. `None` if it does not exist or has fewer bytes.
+    fn read_part(
+        &mut self,
+        alloc: Global,
+        path: &str,
+        at: u64,
+        len: usize,
+    ) -> Result<Option<Vec<u8>>, DeviceFault>
+        ensures found { IsTrue (honest self.old) → IfOk result (λ found. option_map (λ bytes. bytes.items) found ≡ option_and_then (part_of at len) (map.get (files_of (past self.old)) path.now)) }
+        ensures kept { IsTrue (honest self.old) → past self.new ≡ past self.old }
+        ensures honest { honest self.new ≡ honest self.old };
+
     /// Writes a whole file, replacing one at this path. Call it only if no change of the replaced file's path is unsynced: a
     /// system may empty that file in place of making a new one.
     fn write(&mut self, path: &str, bytes: &[u8]) -> Result<(), DeviceFault>
@@ -74,14 +86,16 @@ pub trait Device {
         ensures kept { IsTrue (honest self.old) → past self.new ≡ past self.old }
         ensures honest { honest self.new ≡ honest self.old };
 
-    /// Syncs the bytes of a file, if it exists. Unless the fault is `Device`, nothing was tried. After `Device` the system
+    /// Syncs the bytes of a file, if it exists. After `Device` the system
     /// may have dropped what it could not write, and a later sync of the file does not report that.
     fn sync_file(&mut self, path: &str) -> Result<(), DeviceFault>
         ensures effect { IsTrue (honest self.old) → Does (SyncedFile path.now) (past self.old) (past self.new) result }
+        ensures untried { IsTrue (honest self.old) → Untried (past self.old) (past self.new) result }
         ensures honest { honest self.new ≡ honest self.old };
 
     /// Syncs the names right in a folder, with the same faults, and `Missing` if the folder does not exist.
     fn sync_folder(&mut self, folder: &str) -> Result<(), DeviceFault>
         ensures effect { IsTrue (honest self.old) → Does (SyncedFolder folder.now) (past self.old) (past self.new) result }
+        ensures untried { IsTrue (honest self.old) → Untried (past self.old) (past self.new) result }
         ensures honest { honest self.new ≡ honest self.old };
 }

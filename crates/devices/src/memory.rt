@@ -1,6 +1,6 @@
-ghost use Rattle.std.specs.Prelude.{◌≡◌, ◌∷◌, ◌++◌, [], drop, OnOk, OnErr, IfOk, Some, None, true, option_map};
+ghost use Rattle.std.specs.Prelude.{◌≡◌, ◌∷◌, ◌++◌, [], drop, OnOk, OnErr, IfOk, Some, None, true, option_and_then, option_map};
 ghost use Rattle.std.specs.FinMap as map;
-ghost use Rattle.devices.specs.Device.{bytes_or_none, put_there, within};
+ghost use Rattle.devices.specs.Device.{bytes_or_none, part_of, put_there, within};
 ghost use Rattle.devices.specs.Note.{Make, past_of};
 
 use crate::device::{Device, DeviceFault};
@@ -128,6 +128,27 @@ fn read_in(
     Ok(Some(found.as_bytes().to_vec(alloc)?))
 }
 
+// A part of a file's bytes, if it has so many.
+fn read_part_in(
+    alloc: Global,
+    files: &Tree,
+    path: &Text,
+    at: u64,
+    len: usize,
+) -> Result<Option<Vec<u8>>, AllocError>
+    ensures { IfOk result (λ found. option_map (λ bytes. bytes.items) found ≡ option_and_then (part_of at len) (map.get files.now path.now)) }
+{
+    let Some(found) = files.get(path) else {
+        return Ok(None);
+    };
+    let bytes = found.as_bytes();
+    let count = bytes.len() as u64;
+    if at > count || count - at < len as u64 {
+        return Ok(None);
+    }
+    Ok(Some(bytes[at as usize..][..len].to_vec(alloc)?))
+}
+
 impl Memory {
     ghost use Rattle.std.specs.Prelude.{[]};
 
@@ -167,6 +188,20 @@ impl Device for Memory {
         }
         let path = Text::new(self.alloc, path.as_bytes())?;
         Ok(read_in(alloc, &self.files, &path, most)?)
+    }
+
+    fn read_part(
+        &mut self,
+        alloc: Global,
+        path: &str,
+        at: u64,
+        len: usize,
+    ) -> Result<Option<Vec<u8>>, DeviceFault> {
+        if fails(&mut self.passing) {
+            return Err(DeviceFault::Device);
+        }
+        let path = Text::new(self.alloc, path.as_bytes())?;
+        Ok(read_part_in(alloc, &self.files, &path, at, len)?)
     }
 
     fn write(&mut self, path: &str, bytes: &[u8]) -> Result<(), DeviceFault> {

@@ -6,6 +6,7 @@ use crate::std_files::{create_folder, found, open_file, open_lock, read_all, rea
 use std::alloc::Global;
 use std::fs::{File, OpenFile};
 use std::io::{ErrorKind, Write};
+use std::os::unix::fs::FileExt;
 use std::path::Path;
 use std::rt::Files;
 use std::{fs, io};
@@ -79,6 +80,24 @@ impl<R: Files<File = File> + Drop> Real<R> {
             return Ok(Vec::new(alloc));
         }
         read_all(&self.rt, alloc, path.as_str(), known.len())
+    }
+
+    // Nothing if it is not a regular file, or is shorter.
+    fn read_part_in(
+        &self,
+        alloc: Global,
+        path: &str,
+        at: u64,
+        len: usize,
+    ) -> io::Result<Option<Vec<u8>>> {
+        let path = self.path(path)?;
+        let known = fs::metadata(&self.rt, path.as_str())?;
+        if !known.is_file() || known.len() < at.saturating_add(len as u64) {
+            return Ok(None);
+        }
+        let mut bytes = vec![in alloc; 0; len]?;
+        fs::open(&self.rt, path.as_str())?.read_exact_at(bytes.as_mut_slice(), at)?;
+        Ok(Some(bytes))
     }
 
     // Opens a file to write it anew or after its end. Creates its folder if somebody removed that.
@@ -173,6 +192,19 @@ impl<R: Files<File = File> + AllocGlobal + Clone + Drop> Device for Real<R> {
         most: u64,
     ) -> Result<Option<Vec<u8>>, DeviceFault> {
         told(found(self.read_in(alloc, path, most)))
+    }
+
+    fn read_part(
+        &mut self,
+        alloc: Global,
+        path: &str,
+        at: u64,
+        len: usize,
+    ) -> Result<Option<Vec<u8>>, DeviceFault> {
+        match told(found(self.read_part_in(alloc, path, at, len)))? {
+            Some(part) => Ok(part),
+            None => Ok(None),
+        }
     }
 
     fn write(&mut self, path: &str, bytes: &[u8]) -> Result<(), DeviceFault> {

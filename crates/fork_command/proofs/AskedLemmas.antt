@@ -4,7 +4,7 @@ use Rattle.std.proofs.lemmas.List.Elements.{All-drop}
 use Rattle.clap.specs.Words.{Row, Text, first_of}
 use Rattle.fork_request.specs.Names.{IsTenantName}
 use Rattle.fork_command.specs.declared.command.Command.{Command}
-use Rattle.fork_command.specs.declared.command.Command.TheVariants.{HashObject, Run, Serve, Check, Upgrade, AddTenant, SetLimit, RemoveTenant}
+use Rattle.fork_command.specs.declared.command.Command.TheVariants.{HashObject, Run, Serve, Check, Upgrade, AddTenant, SetLimit, RemoveTenant, Repack}
 use Rattle.fork_command.specs.declared.error.CommandError.{CommandError}
 use Rattle.fork_command.specs.declared.error.CommandError.TheVariants.{Help, Usage, BadTenant, Memory}
 use Rattle.fork_command.specs.declared.grant.Grant.{Grant}
@@ -42,6 +42,7 @@ type_is_good met (Upgrade dir) asked bad = apart met 103 115 (ap third_letter as
 type_is_good met (AddTenant dir grant) asked bad = apart met 100 115 (ap third_letter asked.0.1) (ap third_letter bad.1) (omega arith)
 type_is_good met (SetLimit dir grant) asked bad = apart met 116 115 (ap third_letter asked.0.1) (ap third_letter bad.1) (omega arith)
 type_is_good met (RemoveTenant dir tenant) asked bad = apart met 109 115 (ap third_letter asked.0.1) (ap third_letter bad.1) (omega arith)
+type_is_good met (Repack dir packed) asked bad = apart met 112 115 (ap third_letter asked.met_is) (ap third_letter bad.1) (omega arith)
 
 -- a word that is a grant is not refused as none
 grant_is_good : (grant : Grant) (rows others : List Row) (word : List ℕ) → rows ≡ others → first_of (codes "tenant") rows ≡ Some (grant_word grant) → IsGrant grant → IsNoGrant others word → ⊥
@@ -63,6 +64,7 @@ tenants_are_good met (Upgrade dir) word asked (BadOfRun rows is bad) = apart met
 tenants_are_good met (AddTenant dir grant) word asked (BadOfRun rows is bad) = apart met 100 110 (ap third_letter asked.0.1) (ap third_letter is) (omega arith)
 tenants_are_good met (SetLimit dir grant) word asked (BadOfRun rows is bad) = apart met 116 110 (ap third_letter asked.0.1) (ap third_letter is) (omega arith)
 tenants_are_good met (RemoveTenant dir tenant) word asked (BadOfRun rows is bad) = apart met 109 110 (ap third_letter asked.0.1) (ap third_letter is) (omega arith)
+tenants_are_good met (Repack dir packed) word asked (BadOfRun rows is bad) = apart met 112 110 (ap third_letter asked.met_is) (ap third_letter is) (omega arith)
 tenants_are_good met (HashObject kind) word asked (BadOfServe rows is bad) = apart met 115 114 (ap third_letter asked.1) (ap third_letter is) (omega arith)
 tenants_are_good met (Run hosting) word asked (BadOfServe rows is bad) = apart met 110 114 (ap third_letter asked.1) (ap third_letter is) (omega arith)
 tenants_are_good met (Serve socket connections at_once hosting) word asked (BadOfServe rows is bad) =
@@ -73,6 +75,7 @@ tenants_are_good met (Upgrade dir) word asked (BadOfServe rows is bad) = apart m
 tenants_are_good met (AddTenant dir grant) word asked (BadOfServe rows is bad) = apart met 100 114 (ap third_letter asked.0.1) (ap third_letter is) (omega arith)
 tenants_are_good met (SetLimit dir grant) word asked (BadOfServe rows is bad) = apart met 116 114 (ap third_letter asked.0.1) (ap third_letter is) (omega arith)
 tenants_are_good met (RemoveTenant dir tenant) word asked (BadOfServe rows is bad) = apart met 109 114 (ap third_letter asked.0.1) (ap third_letter is) (omega arith)
+tenants_are_good met (Repack dir packed) word asked (BadOfServe rows is bad) = apart met 112 114 (ap third_letter asked.met_is) (ap third_letter is) (omega arith)
 tenants_are_good met (HashObject kind) word asked (BadOfAdd rows is bad) = apart met 115 100 (ap third_letter asked.1) (ap third_letter is) (omega arith)
 tenants_are_good met (Run hosting) word asked (BadOfAdd rows is bad) = apart met 110 100 (ap third_letter asked.1) (ap third_letter is) (omega arith)
 tenants_are_good met (Serve socket connections at_once hosting) word asked (BadOfAdd rows is bad) = apart met 114 100 (ap third_letter asked.1) (ap third_letter is) (omega arith)
@@ -81,6 +84,7 @@ tenants_are_good met (Upgrade dir) word asked (BadOfAdd rows is bad) = apart met
 tenants_are_good met (AddTenant dir grant) word asked (BadOfAdd rows is bad) = grant_is_good grant asked.0.0 rows word (ap rows_met (sym asked.0.1 ∙ is)) asked.0.3 asked.1 bad
 tenants_are_good met (SetLimit dir grant) word asked (BadOfAdd rows is bad) = apart met 116 100 (ap third_letter asked.0.1) (ap third_letter is) (omega arith)
 tenants_are_good met (RemoveTenant dir tenant) word asked (BadOfAdd rows is bad) = apart met 109 100 (ap third_letter asked.0.1) (ap third_letter is) (omega arith)
+tenants_are_good met (Repack dir packed) word asked (BadOfAdd rows is bad) = apart met 112 100 (ap third_letter asked.met_is) (ap third_letter is) (omega arith)
 tenants_are_good met (HashObject kind) word asked (BadOfLimit rows is bad) = apart met 115 116 (ap third_letter asked.1) (ap third_letter is) (omega arith)
 tenants_are_good met (Run hosting) word asked (BadOfLimit rows is bad) = apart met 110 116 (ap third_letter asked.1) (ap third_letter is) (omega arith)
 tenants_are_good met (Serve socket connections at_once hosting) word asked (BadOfLimit rows is bad) = apart met 114 116 (ap third_letter asked.1) (ap third_letter is) (omega arith)
@@ -89,6 +93,7 @@ tenants_are_good met (Upgrade dir) word asked (BadOfLimit rows is bad) = apart m
 tenants_are_good met (AddTenant dir grant) word asked (BadOfLimit rows is bad) = apart met 100 116 (ap third_letter asked.0.1) (ap third_letter is) (omega arith)
 tenants_are_good met (SetLimit dir grant) word asked (BadOfLimit rows is bad) = grant_is_good grant asked.0.0 rows word (ap rows_met (sym asked.0.1 ∙ is)) asked.0.3 asked.1 bad
 tenants_are_good met (RemoveTenant dir tenant) word asked (BadOfLimit rows is bad) = apart met 109 116 (ap third_letter asked.0.1) (ap third_letter is) (omega arith)
+tenants_are_good met (Repack dir packed) word asked (BadOfLimit rows is bad) = apart met 112 116 (ap third_letter asked.met_is) (ap third_letter is) (omega arith)
 tenants_are_good met (HashObject kind) word asked (BadOfRemove rows is bad) = apart met 115 109 (ap third_letter asked.1) (ap third_letter is) (omega arith)
 tenants_are_good met (Run hosting) word asked (BadOfRemove rows is bad) = apart met 110 109 (ap third_letter asked.1) (ap third_letter is) (omega arith)
 tenants_are_good met (Serve socket connections at_once hosting) word asked (BadOfRemove rows is bad) = apart met 114 109 (ap third_letter asked.1) (ap third_letter is) (omega arith)
@@ -97,6 +102,7 @@ tenants_are_good met (Upgrade dir) word asked (BadOfRemove rows is bad) = apart 
 tenants_are_good met (AddTenant dir grant) word asked (BadOfRemove rows is bad) = apart met 100 109 (ap third_letter asked.0.1) (ap third_letter is) (omega arith)
 tenants_are_good met (SetLimit dir grant) word asked (BadOfRemove rows is bad) = apart met 116 109 (ap third_letter asked.0.1) (ap third_letter is) (omega arith)
 tenants_are_good met (RemoveTenant dir tenant) word asked (BadOfRemove rows is bad) = tenant_is_good tenant asked.0.0 rows word (ap rows_met (sym asked.0.1 ∙ is)) asked.0.3 asked.1 bad
+tenants_are_good met (Repack dir packed) word asked (BadOfRemove rows is bad) = apart met 112 109 (ap third_letter asked.met_is) (ap third_letter is) (omega arith)
 
 pub only_memory : (met : Option (Text × List Row)) (command : Command) (error : CommandError) → Asks met command → IsRefused [] met error → error ≡ Memory
 only_memory met command (Help error) asked refused = absurd refused.1

@@ -161,3 +161,17 @@ set_limit_wants_its_dir = refl
 pub two_tenants_are_faulty : fault_of table_app (codes "forkhost" ∷ codes "add-tenant" ∷ codes "--dir=d" ∷ codes "alice=1" ∷ codes "bob=2" ∷ []) ≡ UnknownArgument ∷ []
 unfolding clap_on_literals table_app
 two_tenants_are_faulty = refl
+
+-- ---- `repack`
+pub repack_is_asked : option_map {U = Text × Option Text × Option Text} (λ p. (p.0, first_of (codes "dir") p.1, one_of (codes "packed") p.1)) (subcommand_of table_app (codes "forkhost" ∷ codes "repack" ∷ codes "--packed" ∷ codes "--dir=d" ∷ []))
+    ≡ Some (codes "repack", Some (codes "d"), Some (codes "true"))
+unfolding clap_on_literals table_app
+repack_is_asked = refl
+
+pub repack_to_files_is_asked : option_map (λ p. one_of (codes "packed") p.1) (subcommand_of table_app (codes "forkhost" ∷ codes "repack" ∷ codes "--dir=d" ∷ [])) ≡ Some (Some (codes "false"))
+unfolding clap_on_literals table_app
+repack_to_files_is_asked = refl
+
+pub repack_wants_its_dir : fault_of table_app (codes "forkhost" ∷ codes "repack" ∷ codes "--packed" ∷ []) ≡ MissingRequiredArgument ∷ []
+unfolding clap_on_literals table_app
+repack_wants_its_dir = refl

@@ -3,7 +3,7 @@ use Rattle.std.proofs.Common.{◌≡◌, ◌≢◌, ◌∙◌, sym, ap, subst, a
 use Rattle.std.specs.Option.{option_map}
 use Rattle.std.specs.Str.{bytes_eq}
 use Rattle.clap.specs.Words.{Row, Text, first_of}
-use Rattle.fork_command.specs.Command.{HasTenantWords, IsCommandMet, ToAdd, ToCheck, ToHash, ToLimit, ToRemove, ToRun, ToServe, ToUpgrade}
+use Rattle.fork_command.specs.Command.{HasTenantWords, IsCommandMet, ToAdd, ToCheck, ToHash, ToLimit, ToRemove, ToRepack, ToRun, ToServe, ToUpgrade}
 use Rattle.std.proofs.lemmas.Slice.Eq.{bytes_eq-Decides}
 
 -- two halves that are known of an option's pair are the pair
@@ -46,6 +46,7 @@ check_met met rows (ToUpgrade others is some) this = other_letter 103 101 (ap th
 check_met met rows (ToAdd others is words) this = other_letter 100 101 (ap third_letter (sym is ∙ this)) (omega arith)
 check_met met rows (ToLimit others is words) this = other_letter 116 101 (ap third_letter (sym is ∙ this)) (omega arith)
 check_met met rows (ToRemove others is words) this = other_letter 109 101 (ap third_letter (sym is ∙ this)) (omega arith)
+check_met met rows (ToRepack others is some) this = other_letter 112 101 (ap third_letter (sym is ∙ this)) (omega arith)
 
 -- and so if `upgrade` was
 pub upgrade_met : (met : Option (Text × List Row)) (rows : List Row) → IsCommandMet met → met ≡ Some (codes "upgrade", rows) → is_some (first_of (codes "dir") rows) ≡ true
@@ -57,6 +58,7 @@ upgrade_met met rows (ToUpgrade others is some) this = subst (λ (rs : List Row)
 upgrade_met met rows (ToAdd others is words) this = other_letter 100 103 (ap third_letter (sym is ∙ this)) (omega arith)
 upgrade_met met rows (ToLimit others is words) this = other_letter 116 103 (ap third_letter (sym is ∙ this)) (omega arith)
 upgrade_met met rows (ToRemove others is words) this = other_letter 109 103 (ap third_letter (sym is ∙ this)) (omega arith)
+upgrade_met met rows (ToRepack others is some) this = other_letter 112 103 (ap third_letter (sym is ∙ this)) (omega arith)
 
 -- if a tenant is to be added, the words have what that needs
 pub add_met : (met : Option (Text × List Row)) (rows : List Row) → IsCommandMet met → met ≡ Some (codes "add-tenant", rows) → HasTenantWords rows
@@ -68,6 +70,7 @@ add_met met rows (ToUpgrade others is some) this = other_letter 103 100 (ap thir
 add_met met rows (ToAdd others is words) this = subst HasTenantWords (ap rows_met (sym is ∙ this)) words
 add_met met rows (ToLimit others is words) this = other_letter 116 100 (ap third_letter (sym is ∙ this)) (omega arith)
 add_met met rows (ToRemove others is words) this = other_letter 109 100 (ap third_letter (sym is ∙ this)) (omega arith)
+add_met met rows (ToRepack others is some) this = other_letter 112 100 (ap third_letter (sym is ∙ this)) (omega arith)
 
 -- and so if a limit is to be set
 pub limit_met : (met : Option (Text × List Row)) (rows : List Row) → IsCommandMet met → met ≡ Some (codes "set-limit", rows) → HasTenantWords rows
@@ -79,6 +82,7 @@ limit_met met rows (ToUpgrade others is some) this = other_letter 103 116 (ap th
 limit_met met rows (ToAdd others is words) this = other_letter 100 116 (ap third_letter (sym is ∙ this)) (omega arith)
 limit_met met rows (ToLimit others is words) this = subst HasTenantWords (ap rows_met (sym is ∙ this)) words
 limit_met met rows (ToRemove others is words) this = other_letter 109 116 (ap third_letter (sym is ∙ this)) (omega arith)
+limit_met met rows (ToRepack others is some) this = other_letter 112 116 (ap third_letter (sym is ∙ this)) (omega arith)
 
 -- and so if a tenant is to be removed
 pub remove_met : (met : Option (Text × List Row)) (rows : List Row) → IsCommandMet met → met ≡ Some (codes "remove-tenant", rows) → HasTenantWords rows
@@ -90,3 +94,16 @@ remove_met met rows (ToUpgrade others is some) this = other_letter 103 109 (ap t
 remove_met met rows (ToAdd others is words) this = other_letter 100 109 (ap third_letter (sym is ∙ this)) (omega arith)
 remove_met met rows (ToLimit others is words) this = other_letter 116 109 (ap third_letter (sym is ∙ this)) (omega arith)
 remove_met met rows (ToRemove others is words) this = subst HasTenantWords (ap rows_met (sym is ∙ this)) words
+remove_met met rows (ToRepack others is some) this = other_letter 112 109 (ap third_letter (sym is ∙ this)) (omega arith)
+
+-- if `repack` was met, a folder is given
+pub repack_met : (met : Option (Text × List Row)) (rows : List Row) → IsCommandMet met → met ≡ Some (codes "repack", rows) → is_some (first_of (codes "dir") rows) ≡ true
+repack_met met rows (ToHash others is) this = other_letter 115 112 (ap third_letter (sym is ∙ this)) (omega arith)
+repack_met met rows (ToRun others is) this = other_letter 110 112 (ap third_letter (sym is ∙ this)) (omega arith)
+repack_met met rows (ToServe others is words) this = other_letter 114 112 (ap third_letter (sym is ∙ this)) (omega arith)
+repack_met met rows (ToCheck others is some) this = other_letter 101 112 (ap third_letter (sym is ∙ this)) (omega arith)
+repack_met met rows (ToUpgrade others is some) this = other_letter 103 112 (ap third_letter (sym is ∙ this)) (omega arith)
+repack_met met rows (ToAdd others is words) this = other_letter 100 112 (ap third_letter (sym is ∙ this)) (omega arith)
+repack_met met rows (ToLimit others is words) this = other_letter 116 112 (ap third_letter (sym is ∙ this)) (omega arith)
+repack_met met rows (ToRemove others is words) this = other_letter 109 112 (ap third_letter (sym is ∙ this)) (omega arith)
+repack_met met rows (ToRepack others is some) this = subst (λ (rs : List Row). is_some (first_of (codes "dir") rs) ≡ true) (ap rows_met (sym is ∙ this)) some

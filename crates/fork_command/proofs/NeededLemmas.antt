@@ -11,7 +11,7 @@ use Rattle.clap.specs.Walk.{Names, nothing_held, row_text, rows_after, settled, 
 use Rattle.clap.specs.declared.builder.value_parser.ValueParser.TheVariants.{Signed}
 use Rattle.clap.proofs.ValueTestLemmas.{accepts-Accepts}
 use Rattle.fork_command.specs.Command.{HasServeWords, HasTenantWords, IsPlaces}
-use Rattle.fork_command.specs.Table.{at_once_rule, connections_rule, folder_app, needed_rule, serve_app, table_app, tenant_app, word_rule}
+use Rattle.fork_command.specs.Table.{at_once_rule, connections_rule, folder_app, needed_rule, repack_app, serve_app, table_app, tenant_app, word_rule}
 use Rattle.fork_command.proofs.GivenLemmas.{Holds, defaults_keep, found_keeps, other_keeps, others_keep, own_keeps, row_at}
 use Rattle.fork_command.proofs.KeptLemmas.{EachKeeps, level_keeps, or_else_first, or_else_last}
 
@@ -166,3 +166,16 @@ tenant_words name words none =
       dir = value_given (row_at (codes "dir") rows) given.0 (level_keeps s (Holds (codes "dir") HasValue) (tenant_dir_kept name) [] words false [] (defaults_keep (codes "dir") HasValue s.rules refl) tt none);
       tenant = value_given (row_at (codes "tenant") rows) given.1 (level_keeps s (Holds (codes "tenant") HasValue) (tenant_kept name) [] words false [] (defaults_keep (codes "tenant") HasValue s.rules refl) tt none);
     }
+
+repack_dir_kept : EachKeeps (standing repack_app) (Holds (codes "dir") HasValue)
+unfolding table_app
+repack_dir_kept =
+    let s = standing repack_app in
+    found_keeps s (Holds (codes "dir") HasValue) s.rules (own_keeps s dir_built HasValue refl refl refl (λ v vs passed. refl), others_keep s (codes "dir") HasValue (drop 1 s.rules) refl)
+
+pub repack_words : (words : List Text) → level_fault (standing repack_app) [] nothing_held words false [] ≡ [] → is_some (first_of (codes "dir") (rows_after (standing repack_app).rules [] words)) ≡ true
+unfolding table_app
+repack_words words none =
+    let s = standing repack_app in
+    let rows = rows_after s.rules [] words in
+    value_given (row_at (codes "dir") rows) (one_given (is_given (codes "dir") rows) (level_last s [] words false [] none)) (level_keeps s (Holds (codes "dir") HasValue) repack_dir_kept [] words false [] (defaults_keep (codes "dir") HasValue s.rules refl) tt none)

@@ -9,7 +9,7 @@ use Rattle.git_name.specs.Kind.{type_word}
 use Rattle.fork_request.specs.Names.{IsTenantName}
 use Rattle.fork_command.specs.declared.grant.Grant.{Grant}
 use Rattle.fork_command.specs.declared.command.Command.{Command}
-use Rattle.fork_command.specs.declared.command.Command.TheVariants.{HashObject, Run, Serve, Check, Upgrade, AddTenant, SetLimit, RemoveTenant}
+use Rattle.fork_command.specs.declared.command.Command.TheVariants.{HashObject, Run, Serve, Check, Upgrade, AddTenant, SetLimit, RemoveTenant, Repack}
 use Rattle.fork_command.specs.declared.hosting.Hosting.{Hosting}
 use Rattle.fork_command.specs.declared.error.CommandError.{CommandError}
 use Rattle.fork_command.specs.declared.error.CommandError.TheVariants.{Help, Usage, BadTenant, Memory}
@@ -31,15 +31,16 @@ connections_given rows = option_map (λ text. digits_value 10 (without_leading_p
 abbrev pub at_once_given : List Row → Option ℕ
 at_once_given rows = option_map (λ text. digits_value 10 (without_leading_plus text)) (one_of (codes "at-once") rows)
 
--- whether `--sync` is given, as `clap` reads it
-pub record IsSyncing (rows : List Row) (syncs : Bool) : Type 0 where
-  pub given : one_of (codes "sync") rows ≡ Some (codes "true") → syncs ≡ true
-  pub omitted : one_of (codes "sync") rows ≡ Some (codes "false") → syncs ≡ false
+-- whether a flag is given, as `clap` reads it
+pub record IsFlag (name : Text) (rows : List Row) (is_given : Bool) : Type 0 where
+  pub given : one_of name rows ≡ Some (codes "true") → is_given ≡ true
+  pub omitted : one_of name rows ≡ Some (codes "false") → is_given ≡ false
 
--- what is hosted: the folder given by `--dir`, if any, whether it is synced, and the tenants
+-- what is hosted: the folder given by `--dir`, if any, whether it is packed and synced, and the tenants
 pub record IsHosting (rows : List Row) (hosting : Hosting) : Type 0 where
   pub dir : option_map (λ dir. dir.now) hosting.dir ≡ first_of (codes "dir") rows
-  pub syncs : IsSyncing rows hosting.syncs
+  pub packed : IsFlag (codes "packed") rows hosting.packed
+  pub syncs : IsFlag (codes "sync") rows hosting.syncs
   pub tenants : AreGrants hosting.tenants.items (tenants_given rows)
 
 -- what `serve` is asked for
@@ -60,6 +61,13 @@ AsksOfFolder name met dir = (rows : List Row) × (met ≡ Some (name, rows)) × 
 abbrev pub AsksOfTenant : Text → Option (Text × List Row) → Text → Text → Type 0
 AsksOfTenant name met dir word = (rows : List Row) × (met ≡ Some (name, rows)) × (first_of (codes "dir") rows ≡ Some dir) × (first_of (codes "tenant") rows ≡ Some word)
 
+-- `clap` found `repack`, which was given this folder, and `--packed` or not
+pub record AsksOfLayout (met : Option (Text × List Row)) (dir : Text) (packed : Bool) : Type 0 where
+  pub rows : List Row
+  pub met_is : met ≡ Some (codes "repack", rows)
+  pub given : first_of (codes "dir") rows ≡ Some dir
+  pub flag : IsFlag (codes "packed") rows packed
+
 -- the subcommand that `clap` found, with the words given to it, asks for this command
 abbrev pub Asks : Option (Text × List Row) → Command → Type 0
 Asks met (HashObject kind) = (rows : List Row) × (met ≡ Some (codes "hash-object", rows)) × (type_given rows ≡ type_word kind)
@@ -70,6 +78,7 @@ Asks met (Upgrade dir) = AsksOfFolder (codes "upgrade") met dir.now
 Asks met (AddTenant dir grant) = AsksOfTenant (codes "add-tenant") met dir.now (grant_word grant) × IsGrant grant
 Asks met (SetLimit dir grant) = AsksOfTenant (codes "set-limit") met dir.now (grant_word grant) × IsGrant grant
 Asks met (RemoveTenant dir tenant) = AsksOfTenant (codes "remove-tenant") met dir.now tenant × IsTenantName tenant
+Asks met (Repack dir packed) = AsksOfLayout met dir.now packed
 
 -- a word that `clap` reads as M
 abbrev pub IsPlaces : Text → Type 0
@@ -98,6 +107,7 @@ pub data IsCommandMet (met : Option (Text × List Row)) : Type 0 where
   ToAdd : (rows : List Row) → met ≡ Some (codes "add-tenant", rows) → HasTenantWords rows → IsCommandMet met
   ToLimit : (rows : List Row) → met ≡ Some (codes "set-limit", rows) → HasTenantWords rows → IsCommandMet met
   ToRemove : (rows : List Row) → met ≡ Some (codes "remove-tenant", rows) → HasTenantWords rows → IsCommandMet met
+  ToRepack : (rows : List Row) → met ≡ Some (codes "repack", rows) → is_some (first_of (codes "dir") rows) ≡ true → IsCommandMet met
 
 -- the word given as TYPE is not the type of an object
 abbrev pub IsBadType : Option (Text × List Row) → Type 0

@@ -20,9 +20,9 @@ connections_rule = record (needed_rule (codes "connections")) { parser = Some (S
 abbrev pub at_once_rule : Rule
 at_once_rule = record (option_rule (codes "at-once")) { parser = Some (Signed (pos 1) (pos 256)) }
 
--- `--sync`
-abbrev pub sync_rule : Rule
-sync_rule = record (new_rule (codes "sync")) { long = Some (codes "sync"); action = Some SetTrue }
+-- `--NAME`, at most once
+abbrev pub flag_rule : Text → Rule
+flag_rule name = record (new_rule name) { long = Some name; action = Some SetTrue }
 
 -- a required word at its place
 abbrev pub word_rule : Text → Rule
@@ -36,17 +36,21 @@ tenants_rule = record (new_rule (codes "tenants")) { action = Some Append; value
 abbrev pub hash_object_app : App
 hash_object_app = with_rule (new_app (codes "hash-object")) (option_rule (codes "type"))
 
--- `run [--dir PATH] [--sync] [TENANT=LIMIT ..]`
+-- with `[--dir PATH] [--packed] [--sync] [TENANT=LIMIT ..]`
+abbrev pub with_hosting : App → App
+with_hosting app = with_rule (with_rule (with_rule (with_rule app (option_rule (codes "dir"))) (flag_rule (codes "packed"))) (flag_rule (codes "sync"))) tenants_rule
+
+-- `run [--dir PATH] [--packed] [--sync] [TENANT=LIMIT ..]`
 abbrev pub run_app : App
-run_app = with_rule (with_rule (with_rule (new_app (codes "run")) (option_rule (codes "dir"))) sync_rule) tenants_rule
+run_app = with_hosting (new_app (codes "run"))
 
 -- `serve --socket PATH --connections N [--at-once M]`
 abbrev pub listening_app : App
 listening_app = with_rule (with_rule (with_rule (new_app (codes "serve")) (needed_rule (codes "socket"))) connections_rule) at_once_rule
 
--- the same with `[--dir PATH] [--sync] [TENANT=LIMIT ..]`
+-- the same with `[--dir PATH] [--packed] [--sync] [TENANT=LIMIT ..]`
 abbrev pub serve_app : App
-serve_app = with_rule (with_rule (with_rule listening_app (option_rule (codes "dir"))) sync_rule) tenants_rule
+serve_app = with_hosting listening_app
 
 -- a subcommand that takes a folder, `--dir PATH`
 abbrev pub folder_app : Text → App
@@ -73,6 +77,10 @@ set_limit_app = tenant_app (codes "set-limit")
 abbrev pub remove_tenant_app : App
 remove_tenant_app = tenant_app (codes "remove-tenant")
 
+-- `repack [--packed] --dir PATH`
+abbrev pub repack_app : App
+repack_app = with_rule (folder_app (codes "repack")) (flag_rule (codes "packed"))
+
 -- `forkhost` and one of its subcommands
 abbrev pub top_app : App
 top_app = let top = new_app (codes "forkhost") in record top { top = record top.top { subcommand_required = true; disable_help_subcommand = true; has_version = true } }
@@ -81,6 +89,6 @@ top_app = let top = new_app (codes "forkhost") in record top { top = record top.
 abbrev pub serving_app : App
 serving_app = with_subcommand (with_subcommand (with_subcommand (with_subcommand (with_subcommand top_app hash_object_app.top) run_app.top) serve_app.top) check_app.top) upgrade_app.top
 
--- the whole table: also the subcommands that change a folder's tenants
+-- the whole table: also the subcommands that change a folder's tenants, and `repack`
 unfoldable pub table_app : App
-table_app = with_subcommand (with_subcommand (with_subcommand serving_app add_tenant_app.top) set_limit_app.top) remove_tenant_app.top
+table_app = with_subcommand (with_subcommand (with_subcommand (with_subcommand serving_app add_tenant_app.top) set_limit_app.top) remove_tenant_app.top) repack_app.top

@@ -58,6 +58,11 @@ pub enum Command<'a> {
         dir: &'a str,
         tenant: TenantName,
     },
+    /// Give a folder the other layout: segments if `packed`, and else a file for each object.
+    Repack {
+        dir: &'a str,
+        packed: bool,
+    },
 }
 
 // Why clap refuses the words.
@@ -145,6 +150,18 @@ fn named<'a>(matches: &ArgMatches<'a>) -> Result<(&'a str, TenantName), CommandE
     Ok((dir, tenant))
 }
 
+// What the words given to `repack` ask for.
+fn repacking<'a>(matches: &ArgMatches<'a>) -> Command<'a>
+    requires dir { is_some (first_of (codes "dir") (rows_of (found_of matches.now))) ≡ true }
+    ensures { Asks (Some (codes "repack", rows_of (found_of matches.entry.now))) result }
+{
+    let Some(dir) = matches.get_str("dir") else {
+        unreachable!();
+    };
+    let packed = matches.get_flag("packed");
+    Command::Repack { dir, packed }
+}
+
 // What words that clap took ask for, or `None` if TYPE is bad.
 fn asked<'a>(
     alloc: Global,
@@ -195,6 +212,9 @@ fn asked<'a>(
     if name == "remove-tenant" {
         let (dir, tenant) = named(matches)?;
         return Ok(Some(Command::RemoveTenant { dir, tenant }));
+    }
+    if name == "repack" {
+        return Ok(Some(repacking(matches)));
     }
     unreachable!()
 }

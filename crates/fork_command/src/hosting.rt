@@ -14,6 +14,8 @@ use std::alloc::Global;
 pub struct Hosting<'a> {
     /// The folder that keeps the host, as written; without one the host is kept only in memory.
     pub dir: Option<&'a str>,
+    /// Whether a folder without a host is to keep its objects packed.
+    pub packed: bool,
     /// Whether each reply waits until what it reports is synced in the folder.
     pub syncs: bool,
     /// The tenants to add, in the order of the words.
@@ -40,10 +42,12 @@ pub(crate) fn hosting_of<'a>(
     ensures err { IfErr result (IsBadGrant (tenants_given (rows_of (found_of matches.entry.now)))) }
 {
     let dir = matches.get_str("dir");
+    let packed = matches.get_flag("packed");
     let syncs = matches.get_flag("sync");
     let tenants = tenants_of(alloc, matches)?;
     Ok(Hosting {
         dir,
+        packed,
         syncs,
         tenants,
     })

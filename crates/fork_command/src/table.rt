@@ -2,7 +2,7 @@ ghost use Rattle.std.specs.Prelude.{◌≡◌, IfOk, codes, false};
 ghost use Rattle.clap.specs.Walk.{rule_of};
 ghost use Rattle.clap.specs.Words.{app_of};
 ghost use Rattle.clap.specs.declared.builder.command.Command.TheViews.{out-Command};
-ghost use Rattle.fork_command.specs.Table.{at_once_rule, connections_rule, folder_app, hash_object_app, listening_app, needed_rule, option_rule, run_app, serve_app, serving_app, sync_rule, table_app, tenant_app, tenants_rule, word_rule};
+ghost use Rattle.fork_command.specs.Table.{at_once_rule, connections_rule, flag_rule, folder_app, hash_object_app, listening_app, needed_rule, option_rule, repack_app, run_app, serve_app, serving_app, table_app, tenant_app, tenants_rule, with_hosting, word_rule};
 
 use clap::{Arg, ArgAction, Command, value_parser};
 use std::alloc::{AllocError, Global};
@@ -35,8 +35,18 @@ fn dir<'a>(alloc: Global) -> Arg<'a>
         .action(ArgAction::Set)
 }
 
+fn packed<'a>(alloc: Global, help: &'a str) -> Arg<'a>
+    ensures rule { rule_of result ≡ flag_rule (codes "packed") }
+    ensures local { result.global ≡ false }
+{
+    Arg::new(alloc, "packed")
+        .long("packed")
+        .help(help)
+        .action(ArgAction::SetTrue)
+}
+
 fn sync<'a>(alloc: Global) -> Arg<'a>
-    ensures rule { rule_of result ≡ sync_rule }
+    ensures rule { rule_of result ≡ flag_rule (codes "sync") }
     ensures local { result.global ≡ false }
 {
     Arg::new(alloc, "sync")
@@ -55,15 +65,27 @@ fn tenants<'a>(alloc: Global) -> Arg<'a>
         .action(ArgAction::Append)
 }
 
+// A subcommand with the arguments that say what is hosted.
+fn hosting<'a>(alloc: Global, command: Command<'a>) -> Result<Command<'a>, AllocError>
+    requires local { (out-Command command).has_globals ≡ false }
+    ensures table { IfOk result (λ c. app_of c ≡ with_hosting (app_of command.entry)) }
+    ensures local { IfOk result (λ c. (out-Command c).has_globals ≡ false) }
+{
+    command
+        .arg(dir(alloc))?
+        .arg(packed(alloc, "Keep the objects of a new folder in few files"))?
+        .arg(sync(alloc))?
+        .arg(tenants(alloc))
+}
+
 fn run<'a>(alloc: Global) -> Result<Command<'a>, AllocError>
     ensures table { IfOk result (λ c. app_of c ≡ run_app) }
     ensures local { IfOk result (λ c. (out-Command c).has_globals ≡ false) }
 {
-    Command::new(alloc, "run")
-        .about("Serve request frames from standard input to standard output")
-        .arg(dir(alloc))?
-        .arg(sync(alloc))?
-        .arg(tenants(alloc))
+    let run = Command::new(alloc, "run").about(
+        "Serve request frames from standard input to standard output",
+    );
+    hosting(alloc, run)
 }
 
 fn socket<'a>(alloc: Global) -> Arg<'a>
@@ -121,10 +143,7 @@ fn serve<'a>(alloc: Global) -> Result<Command<'a>, AllocError>
     ensures table { IfOk result (λ c. app_of c ≡ serve_app) }
     ensures local { IfOk result (λ c. (out-Command c).has_globals ≡ false) }
 {
-    listening(alloc)?
-        .arg(dir(alloc))?
-        .arg(sync(alloc))?
-        .arg(tenants(alloc))
+    hosting(alloc, listening(alloc)?)
 }
 
 // A subcommand that takes a folder.
@@ -162,6 +181,19 @@ fn of_tenant<'a>(
     ensures local { IfOk result (λ c. (out-Command c).has_globals ≡ false) }
 {
     of_folder(alloc, name, about)?.arg(tenant)
+}
+
+// The subcommand that gives a folder the other layout.
+fn repack<'a>(alloc: Global) -> Result<Command<'a>, AllocError>
+    ensures table { IfOk result (λ c. app_of c ≡ repack_app) }
+    ensures local { IfOk result (λ c. (out-Command c).has_globals ≡ false) }
+{
+    of_folder(
+        alloc,
+        "repack",
+        "Keep each object of a folder in a file of its own, or with --packed many in one",
+    )?
+    .arg(packed(alloc, "Keep the objects in few files"))
 }
 
 // The table with the subcommands that serve, and those that read or upgrade a folder.
@@ -215,5 +247,6 @@ pub(crate) fn table<'a>(alloc: Global) -> Result<Command<'a>, AllocError>
     serving(alloc)?
         .subcommand(add)?
         .subcommand(limit)?
-        .subcommand(remove)
+        .subcommand(remove)?
+        .subcommand(repack(alloc)?)
 }

@@ -5,7 +5,7 @@ use Rattle.std.specs.Io.KnownBytes.{Appends, Consumes}
 use Rattle.std.proofs.KnownBytes.{Appends-nil, Appends-trans}
 use Rattle.std.proofs.lemmas.List.{append-nil, length-append}
 use Rattle.fork_request.specs.Told.{bytes_of}
-use Rattle.fork_frame.specs.declared.ended.Ended.TheVariants.{BadFrame}
+use Rattle.fork_frame.specs.declared.session_end.Ended.TheVariants.{BadFrame}
 use Rattle.fork_frame.specs.declared.frame.Frame.{Frame}
 use Rattle.fork_frame.specs.Frame.{IsFrame, frame_bytes}
 use Rattle.fork_frame.specs.Reply.{last_line, reply_frame}

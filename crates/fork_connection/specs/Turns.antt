@@ -3,7 +3,7 @@ use Rattle.std.specs.Prelude.{◌≡◌, ◌≢◌, ℕ, ◌≤◌, ◌==◌, Bo
 use Rattle.std.specs.Io.KnownBytes.{Appends, Consumes, IsAtEnd}
 use Rattle.fork_request.specs.Told.{bytes_of}
 use Rattle.fork_request.specs.declared.reply.Reply.{Reply}
-use Rattle.fork_frame.specs.declared.ended.Ended.TheVariants.{BadFrame}
+use Rattle.fork_frame.specs.declared.session_end.Ended.TheVariants.{BadFrame}
 use Rattle.fork_frame.specs.declared.frame.Frame.{Frame}
 use Rattle.fork_frame.specs.Frame.{AreFrames, IsBad, IsFrame, frame_bytes}
 use Rattle.fork_frame.specs.Reply.{last_line, reply_frame}

@@ -1,5 +1,5 @@
 ghost use Rattle.std.specs.Prelude.{◌≡◌, ◌≤◌, ◌<◌, [], ℕ, List, Option, false, true, OnOk, length};
-ghost use Rattle.fork_frame.specs.declared.ended.Ended.{Ended as HowEnded};
+ghost use Rattle.fork_frame.specs.declared.session_end.Ended.{Ended as HowEnded};
 ghost use Rattle.fork_frame.specs.Reply.{last_line};
 ghost use Rattle.fork_connection.specs.Inbox.{IsPart};
 ghost use Rattle.fork_connection.specs.Turns.{IsExchange, IsSent, IsTurn, Replies, is_loss, peer_of};

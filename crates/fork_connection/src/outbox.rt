@@ -1,7 +1,7 @@
 ghost use Rattle.std.specs.Prelude.{◌≡◌, ◌++◌, ◌∷◌, [], List, ℕ, IfOk, OnOk, codes, decimal, true, false, ◌≤◌, length};
 ghost use Rattle.std.specs.Io.KnownBytes.{Appends};
 ghost use Rattle.fork_request.specs.Told.{bytes_of};
-ghost use Rattle.fork_frame.specs.declared.ended.Ended.{Ended as HowEnded};
+ghost use Rattle.fork_frame.specs.declared.session_end.Ended.{Ended as HowEnded};
 ghost use Rattle.fork_frame.specs.Reply.{last_line, reply_frame};
 
 use crate::piece::Piece;

@@ -6,8 +6,8 @@ use Rattle.std.proofs.lemmas.List.Concat.{flat_map-cons}
 use Rattle.std.proofs.lemmas.List.Elements.{All-head, All-tail}
 use Rattle.fork_frame.specs.declared.line.Line.{Line}
 use Rattle.fork_frame.specs.declared.frame.Frame.{Frame}
-use Rattle.fork_frame.specs.declared.ended.Ended.{Ended}
-use Rattle.fork_frame.specs.declared.ended.Ended.TheVariants.{Clean, BadFrame}
+use Rattle.fork_frame.specs.declared.session_end.Ended.{Ended}
+use Rattle.fork_frame.specs.declared.session_end.Ended.TheVariants.{Clean, BadFrame}
 use Rattle.fork_frame.specs.Line.{IsFrameLine, line_text}
 use Rattle.fork_frame.specs.Frame.{IsFrame, IsBad, EndsAt, IsRequestStream, OneFrame, OneStream, frame_bytes}
 use Rattle.fork_frame.proofs.LineLemmas.{line_plain, line_unique}

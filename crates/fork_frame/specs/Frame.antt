@@ -1,8 +1,8 @@
 -- Frames of requests (own): a line, LF, and the payload. An input is a sequence of frames.
 use Rattle.std.specs.Prelude.{◌≡◌, ◌≢◌, ℕ, ◌≤◌, All, List, [], ◌∷◌, ◌++◌, length, flat_map}
 use Rattle.fork_frame.specs.declared.frame.Frame.{Frame}
-use Rattle.fork_frame.specs.declared.ended.Ended.{Ended}
-use Rattle.fork_frame.specs.declared.ended.Ended.TheVariants.{Clean, BadFrame}
+use Rattle.fork_frame.specs.declared.session_end.Ended.{Ended}
+use Rattle.fork_frame.specs.declared.session_end.Ended.TheVariants.{Clean, BadFrame}
 use Rattle.fork_frame.specs.Asker.{IsAsker}
 use Rattle.fork_frame.specs.Line.{line_text}
 use Rattle.fork_request.specs.declared.request.TheConstants.{MAX_PAYLOAD}

@@ -1,8 +1,8 @@
 -- What is sent (own): the frames of replies, and a last line if the input continued with something that is not a frame.
 use Rattle.std.specs.Prelude.{◌≡◌, ◌≢◌, ℕ, ◌<◌, ◌^◌, List, [], ◌∷◌, ◌++◌, Option, length, codes, decimal}
 use Rattle.std.specs.Io.KnownBytes.{Appends}
-use Rattle.fork_frame.specs.declared.ended.Ended.{Ended}
-use Rattle.fork_frame.specs.declared.ended.Ended.TheVariants.{Clean, BadFrame}
+use Rattle.fork_frame.specs.declared.session_end.Ended.{Ended}
+use Rattle.fork_frame.specs.declared.session_end.Ended.TheVariants.{Clean, BadFrame}
 
 -- the length of the reply's bytes in decimal, LF, and the bytes
 abbrev pub reply_frame : List ℕ → List ℕ

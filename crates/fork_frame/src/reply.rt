@@ -3,9 +3,9 @@ ghost use Rattle.std.specs.Io.KnownBytes.{Appends, Keeps};
 ghost use Rattle.fork_request.specs.Told.{bytes_of};
 ghost use Rattle.fork_frame.specs.Reply.{WritesFront, last_line, reply_frame};
 
-use crate::ended::Ended;
 use crate::fault::ReplyFault;
-use crate::writing::{put, put_length};
+use crate::put::{put, put_length};
+use crate::session_end::Ended;
 use fork_request::Reply;
 use std::alloc::Global;
 use std::io::Write;

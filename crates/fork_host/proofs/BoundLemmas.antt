@@ -12,7 +12,7 @@ use Rattle.fork_request.specs.Asked.{Ask}
 use Rattle.fork_request.specs.Told.{is_host_fault}
 use Rattle.fork_request.specs.declared.host_fault.HostFault.TheVariants.{Memory, Store, Damaged, Collision}
 use Rattle.fork_request.specs.declared.reply.Reply.{Reply}
-use Rattle.fork_request.specs.declared.reply.Reply.TheVariants.{Done, Refused, Failed}
+use Rattle.fork_request.specs.declared.reply.Reply.TheVariants.{Done, Unchanged, Refused, Failed}
 use Rattle.fork_ledger.specs.AllStaged.{MeetsAmong, StoresAmong}
 use Rattle.fork_ledger.specs.declared.fault.VaultFault.{VaultFault}
 use Rattle.fork_ledger.specs.declared.fault.VaultFault.TheVariants as ledger
@@ -72,6 +72,7 @@ IsQuiet reply = (is_host_fault reply ≡ false) ⊎ (reply ≡ Failed Memory)
 
 pub bounded_gains : (sent : List Object) (a b : VaultState) (reply : Reply) → Gains sent a b → IsQuiet reply → IsBounded sent a b reply
 bounded_gains sent a b (Done text) gains quiet = record { honest = gains.honest; counted = gains.failures; undamaged = λ h is. cc; collided = λ h is. absurd (cc); stored = λ h _ _. gains.stored h }
+bounded_gains sent a b Unchanged gains quiet = record { honest = gains.honest; counted = gains.failures; undamaged = λ h is. cc; collided = λ h is. absurd (cc); stored = λ h _ _. gains.stored h }
 bounded_gains sent a b (Refused refusal) gains quiet = record { honest = gains.honest; counted = gains.failures; undamaged = λ h is. cc; collided = λ h is. absurd (cc); stored = λ h _ _. gains.stored h }
 bounded_gains sent a b (Failed Memory) gains quiet = record { honest = gains.honest; counted = gains.failures; undamaged = λ h is. cc; collided = λ h is. absurd (cc); stored = λ h _ _. gains.stored h }
 bounded_gains sent a b (Failed Store) gains (inl is) = absurd (cc)

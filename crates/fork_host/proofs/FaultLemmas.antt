@@ -9,7 +9,7 @@ use Rattle.loose_store.specs.Files.{Files}
 use Rattle.loose_store.specs.Stored.{Whole}
 use Rattle.fork_request.specs.declared.host_fault.HostFault.TheVariants.{Memory, Store, Damaged, Collision}
 use Rattle.fork_request.specs.declared.reply.Reply.{Reply}
-use Rattle.fork_request.specs.declared.reply.Reply.TheVariants.{Done, Refused, Failed}
+use Rattle.fork_request.specs.declared.reply.Reply.TheVariants.{Done, Unchanged, Refused, Failed}
 use Rattle.fork_model.specs.Runs.{Asks, HostAsks}
 use Rattle.fork_model.specs.World.{Event}
 use Rattle.fork_host.specs.Bounds.{CountsReply, IsBounded, IsCollision}
@@ -76,6 +76,7 @@ rises_up before now (inr (most, is)) = omega (arith, is)
 -- the count of failures never falls
 counts_up : (before now : ℕ) (reply : Reply) → CountsReply before now reply → before ≤ now
 counts_up before now (Done text) is = omega (arith, is)
+counts_up before now Unchanged is = omega (arith, is)
 counts_up before now (Refused refusal) is = omega (arith, is)
 counts_up before now (Failed Memory) is = omega (arith, is)
 counts_up before now (Failed Store) rises = rises_up before now rises
@@ -93,6 +94,7 @@ up_along old new (event ∷ events) (reply ∷ replies) along =
 
 not_counted : (before now : ℕ) (reply : Reply) → CountsReply before now reply → now ≡ before → before ≢ greatest_count → reply ≢ Failed Store
 not_counted before now (Done text) is same least told = absurd (cc)
+not_counted before now Unchanged is same least told = absurd (cc)
 not_counted before now (Refused refusal) is same least told = absurd (cc)
 not_counted before now (Failed Memory) is same least told = absurd (cc)
 not_counted before now (Failed Store) (inl is) same least told = omega (arith, is, same)

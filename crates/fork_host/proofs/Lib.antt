@@ -15,6 +15,7 @@ pub mod OpeningLemmas
 pub mod OwnLemmas
 pub mod PairLemmas
 pub mod PartLemmas
+pub mod PruneLemmas
 pub mod PushLemmas
 pub mod QueryLemmas
 pub mod ReadLemmas

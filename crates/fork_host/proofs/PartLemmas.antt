@@ -16,9 +16,9 @@ use Rattle.push_stream.specs.declared.brief.Brief.{Brief}
 use Rattle.push_stream.specs.declared.fault.BodyError.{BodyError}
 use Rattle.push_stream.specs.declared.fault.BodyError.TheVariants.{Fault, Memory}
 use Rattle.push_stream.specs.declared.fault.StreamFault.{StreamFault}
-use Rattle.push_stream.specs.declared.upload.TheConstants.{MAX_UPLOAD}
+use Rattle.push_stream.specs.declared.upload_limit.TheConstants.{MAX_UPLOAD}
 use Rattle.push_stream.specs.Brief.{brief_of}
-use Rattle.push_stream.specs.Incoming.{TellsEnd}
+use Rattle.push_stream.specs.OpenUpload.{TellsEnd}
 use Rattle.push_stream.specs.Reading.{Broken, Flow, Going, Reading, finished_flow, flow_of, gained, reading_of}
 use Rattle.push_stream.specs.Stream.{Breaks, Flows, Stream, behind, finished, header_in, records_in, sent_in, stream_of}
 use Rattle.push_stream.specs.Upload.{UploadValue, continued, stream_with, upload_of}
@@ -27,7 +27,7 @@ use Rattle.push_stream.proofs.ReadingLemmas.{finished_is}
 use Rattle.fork_request.specs.Told.{is_done, is_host_fault}
 use Rattle.fork_request.specs.declared.refusal.Refusal.TheVariants.{NoUpload, StagedTooLong}
 use Rattle.fork_request.specs.declared.reply.Reply.{Reply}
-use Rattle.fork_request.specs.declared.reply.Reply.TheVariants.{Done, Failed, Refused}
+use Rattle.fork_request.specs.declared.reply.Reply.TheVariants.{Done, Unchanged, Failed, Refused}
 use Rattle.fork_reach.specs.Source.{Objects}
 use Rattle.fork_ledger.specs.Tenants.{VaultState}
 use Rattle.fork_ledger.specs.AllStaged.{StoresAmong}
@@ -314,6 +314,7 @@ none_among staged (Some reading) is = absurd (cc)
 -- a host fault is not `ok`
 pub failed_not_done : (reply : Reply) → is_host_fault reply ≡ true → is_done reply ≡ false
 failed_not_done (Done text) is = absurd (cc)
+failed_not_done Unchanged is = absurd (cc)
 failed_not_done (Refused refusal) is = refl
 failed_not_done (Failed fault) is = refl
 

@@ -5,7 +5,7 @@ use Rattle.fork_request.specs.Asked.{Ask}
 use Rattle.fork_request.specs.Told.{is_host_fault}
 use Rattle.fork_request.specs.declared.reply.Reply.{Reply}
 use Rattle.fork_request.specs.declared.reply.Reply.TheVariants.{Done}
-use Rattle.fork_model.specs.Answer.{answer}
+use Rattle.fork_model.specs.Answer.{answer, pruned_reply}
 use Rattle.fork_model.specs.Runs.{Told, Failed}
 use Rattle.fork_model.specs.Context.{Context}
 use Rattle.fork_model.specs.Sound.{IsSound, IsSoundBeside}
@@ -33,6 +33,6 @@ yields_plain row old now new reply same (Lacking wanting stays) = Lacking wantin
 yields_plain row old now new reply same (Faulted fault failed stays) = Faulted fault failed (same ∙ stays)
 
 -- objects that were kept, or not
-pub yields_kept : (view : View) (kept objects : Objects) (reply : Reply) → KeepsObjects kept view.objects reply objects → Yields (Done [], record view { objects = kept }) view reply (record view { objects = objects })
+pub yields_kept : (view : View) (kept objects : Objects) (reply : Reply) → KeepsObjects kept view.objects reply objects → Yields (pruned_reply view.objects kept, record view { objects = kept }) view reply (record view { objects = objects })
 yields_kept view kept objects reply (Kept told is) = Yielded told (ap (λ o. plain (record view { objects = o })) is)
 yields_kept view kept objects reply (Unkept fault told is) = Faulted fault told (ap (λ o. plain (record view { objects = o })) is)

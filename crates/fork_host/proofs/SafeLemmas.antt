@@ -4,7 +4,7 @@ use Rattle.std.specs.Option.{option_map}
 use Rattle.std.specs.FinMap.{contains_key, get, insert, len, retain_keys}
 use Rattle.git_reftx.specs.Repository.{Repository}
 use Rattle.git_reftx.specs.Transaction.{References, is_commit}
-use Rattle.push_stream.specs.declared.upload.TheConstants.{MAX_UPLOAD}
+use Rattle.push_stream.specs.declared.upload_limit.TheConstants.{MAX_UPLOAD}
 use Rattle.push_stream.specs.Reading.{Reading}
 use Rattle.push_stream.specs.Upload.{UploadValue}
 use Rattle.git_reftx.specs.Repository.{IsBranch}
@@ -13,6 +13,7 @@ use Rattle.fork_reach.specs.Source.{Objects}
 use Rattle.fork_reach.proofs.MeasureLemmas.{same_kinds, same_there, same_use}
 use Rattle.fork_push.specs.Verdict as verdict
 use Rattle.fork_request.specs.Asked.{Ask}
+use Rattle.fork_host.proofs.PruneLemmas.{pruned_done}
 use Rattle.fork_request.specs.Told.{is_done}
 use Rattle.fork_request.specs.declared.reply.Reply.{Reply}
 use Rattle.fork_request.specs.declared.reply.Reply.TheVariants.{Done}
@@ -168,7 +169,7 @@ pub safe_pruned : (Within : Reply → Type 0) (view : View) (objects : Objects) 
     → IsSafe Within view reply (view_of other view.repositories objects view.limit)
 safe_pruned Within view objects other reply alike within (Pruned kept done same rooted) = record {
   orderly = λ before. orderly_measured view.repositories (retain_keys view.objects kept) objects view other view.limit same alike (orderly_kept view kept rooted before);
-  kept = λ not_done. (let differs : ⊥ = cc (ap is_done done) in absurd differs);
+  kept = λ not_done. (let differs : ⊥ = cc (ap is_done done, pruned_done view.objects (retain_keys view.objects kept)) in absurd differs);
   faults = within;
 }
 safe_pruned Within view objects other reply alike within (Unpruned fault failed same) = safe_left Within view.repositories view.repositories view.objects objects view other view.limit reply refl same alike within

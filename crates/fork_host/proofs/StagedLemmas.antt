@@ -12,7 +12,7 @@ use Rattle.git_name.specs.Name.{name_cmp}
 use Rattle.git_name.specs.Object.{Object, object_name}
 use Rattle.git_name.proofs.Names.{name_total}
 use Rattle.git_reftx.specs.declared.command.Command.{Command}
-use Rattle.push_stream.specs.Incoming.{is_broken}
+use Rattle.push_stream.specs.OpenUpload.{is_broken}
 use Rattle.push_stream.specs.Reading.{Reading, flow_of, gained, gained_by, read_on, reading_of}
 use Rattle.push_stream.specs.Stream.{Stream, Flows, Breaks, behind, sent_in, stream_of}
 use Rattle.push_stream.specs.Upload.{UploadValue, continued, stream_with, upload_of}

@@ -1,7 +1,7 @@
 -- What sweeps alone leave.
 use Rattle.std.proofs.Common.{◌≡◌, ℕ, true, IsTrue, List, [], ◌∷◌, ap, ◌∙◌}
 use Rattle.fork_request.specs.declared.reply.Reply.{Reply}
-use Rattle.fork_request.specs.declared.reply.Reply.TheVariants.{Done, Refused, Failed}
+use Rattle.fork_request.specs.declared.reply.Reply.TheVariants.{Done, Unchanged, Refused, Failed}
 use Rattle.fork_request.specs.declared.host_request.HostRequest.TheVariants.{Sweep}
 use Rattle.fork_request.specs.Told.{is_done}
 use Rattle.fork_ledger.specs.Swept.{AreSwept, IsSwept}
@@ -13,6 +13,7 @@ use Rattle.fork_host.specs.Swept.{AreDone, Tends, sweeps}
 -- a sweep that was answered is a slice
 swept_one : (most : ℕ) (old new : VaultState) (reply : Reply) → IsTrue old.honest → Tends (Sweep most) old reply new → is_done reply ≡ true → IsSwept most old new
 swept_one most old new (Done text) h tends done = record { sweeps = tends.tended.0; kept = tends.kept h }
+swept_one most old new Unchanged h tends done = absurd (tends.tended)
 swept_one most old new (Refused refusal) h tends done = absurd (cc)
 swept_one most old new (Failed fault) h tends done = absurd (cc)
 

@@ -1,6 +1,6 @@
 -- When a tenant is not added, and what it sees at first.
 use Rattle.std.specs.Prelude.{ℕ, List, Option, None, Some, nat_le, nat_lt, if◌then◌else◌}
-use Rattle.fork_request.specs.declared.limit.TheConstants.{MAX_LIMIT}
+use Rattle.fork_request.specs.declared.tenant_limit.TheConstants.{MAX_LIMIT}
 use Rattle.fork_model.specs.declared.limits.TheConstants.{MAX_TENANTS}
 use Rattle.std.specs.FinMap.{contains_key, len, empty}
 use Rattle.fork_model.specs.View.{View}

@@ -9,7 +9,7 @@ use Rattle.fork_reach.specs.declared.source.SourceFault.{SourceFault}
 use Rattle.fork_reach.specs.declared.source.SourceFault.TheVariants as source
 use Rattle.fork_request.specs.declared.host_fault.HostFault.TheVariants.{Memory, Store, Damaged, Collision}
 use Rattle.fork_request.specs.declared.reply.Reply.{Reply}
-use Rattle.fork_request.specs.declared.reply.Reply.TheVariants.{Done, Refused, Failed}
+use Rattle.fork_request.specs.declared.reply.Reply.TheVariants.{Done, Unchanged, Refused, Failed}
 use Rattle.fork_ledger.specs.Tenants.{VaultState}
 use Rattle.fork_ledger.specs.AllStaged.{StoresAmong}
 use Rattle.std.specs.Prelude.{Some}
@@ -17,6 +17,7 @@ use Rattle.std.specs.Prelude.{Some}
 -- a failure of the store is counted and reported, and nothing else is
 abbrev pub CountsReply : ℕ → ℕ → Reply → Type 0
 CountsReply before now (Done text) = now ≡ before
+CountsReply before now Unchanged = now ≡ before
 CountsReply before now (Refused refusal) = now ≡ before
 CountsReply before now (Failed Memory) = now ≡ before
 CountsReply before now (Failed Store) = Rises before now

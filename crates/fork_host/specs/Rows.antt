@@ -13,6 +13,7 @@ use Rattle.fork_reach.specs.Objects.{measures_of}
 use Rattle.fork_reach.specs.Source.{Objects}
 use Rattle.fork_query.specs.declared.query_error.QueryError.{QueryError}
 use Rattle.fork_query.specs.declared.query_error.QueryError.TheVariants as query
+use Rattle.fork_model.specs.Answer.{pruned_reply}
 use Rattle.fork_model.specs.View.{View}
 use Rattle.fork_host.specs.Made.{Made, made_of}
 
@@ -60,12 +61,12 @@ query_told view (Err (query.Failed fault)) = Failed (fault_told fault)
 
 -- objects are kept, or a host fault leaves all of them
 pub data KeepsObjects (kept old : Objects) (reply : Reply) (new : Objects) : Type 0 where
-  Kept : reply ≡ Done [] → new ≡ kept → KeepsObjects kept old reply new
+  Kept : reply ≡ pruned_reply old kept → new ≡ kept → KeepsObjects kept old reply new
   Unkept : (fault : HostFault) → reply ≡ Failed fault → new ≡ old → KeepsObjects kept old reply new
 
 -- the same over any store, as far as names, kinds and lengths go: the roots are among those that are kept
 pub data IsPruned (roots : List (List ℕ)) (old : Objects) (reply : Reply) (new : Objects) : Type 0 where
-  Pruned : (kept : List ℕ → Bool) → reply ≡ Done [] → measures_of new ≡ measures_of (retain_keys old kept)
+  Pruned : (kept : List ℕ → Bool) → reply ≡ pruned_reply old (retain_keys old kept) → measures_of new ≡ measures_of (retain_keys old kept)
       → ((name : List ℕ) → Contains roots name → contains_key old name ≡ true → kept name ≡ true) → IsPruned roots old reply new
   Unpruned : (fault : HostFault) → reply ≡ Failed fault → measures_of new ≡ measures_of old → IsPruned roots old reply new
 

@@ -5,7 +5,7 @@ use Rattle.std.specs.FinMap.{FinMap, code, contains_key, entries, from_sorted, g
 use Rattle.git_name.specs.Name.{name_cmp}
 use Rattle.git_name.specs.Text.{bytes_code}
 use Rattle.git_reftx.specs.Repository.{repository_code}
-use Rattle.push_stream.specs.Incoming.{reading_code}
+use Rattle.push_stream.specs.OpenUpload.{reading_code}
 use Rattle.push_stream.specs.Reading.{Reading}
 use Rattle.fork_ledger.specs.Private.{Private}
 use Rattle.fork_ledger.specs.Tenants.{VaultState, private_of, vault_code}

@@ -9,7 +9,7 @@ use Rattle.fork_request.specs.declared.host_request.HostRequest.{HostRequest}
 use Rattle.fork_request.specs.declared.host_request.HostRequest.TheVariants.{Sweep, Collect, Census, Fsck, Tenants, Bad}
 use Rattle.fork_request.specs.declared.refusal.Refusal.TheVariants.{BadRequest}
 use Rattle.fork_request.specs.declared.reply.Reply.{Reply}
-use Rattle.fork_request.specs.declared.reply.Reply.TheVariants.{Done, Refused, Failed}
+use Rattle.fork_request.specs.declared.reply.Reply.TheVariants.{Done, Unchanged, Refused, Failed}
 use Rattle.fork_model.specs.Runs.{Asks, HostAsks}
 use Rattle.fork_model.specs.World.{Event, number_line}
 use Rattle.looks.specs.Growth.{GrowsAmong}
@@ -47,12 +47,14 @@ pub record Shrinks (old new : Places) (text : List ℕ) : Type 0 where
 -- a sweep: at most this many looks, and fewer if a fault ends it
 abbrev pub IsSweep : ℕ → VaultState → Reply → VaultState → Type 0
 IsSweep most old (Done text) new = Sweeps (is_taken old.tenants) most old.places new.places × Shrinks old.places new.places text
+IsSweep most old Unchanged new = ⊥
 IsSweep most old (Refused refusal) new = ⊥
 IsSweep most old (Failed fault) new = LooksBefore (is_taken old.tenants) most old.places new.places
 
 -- a collection: one whole round of looks, or a part of it if a fault ends it
 abbrev pub IsCollection : VaultState → Reply → VaultState → Type 0
 IsCollection old (Done text) new = Collects (is_taken old.tenants) old.places new.places × Shrinks old.places new.places text
+IsCollection old Unchanged new = ⊥
 IsCollection old (Refused refusal) new = ⊥
 IsCollection old (Failed fault) new = WalksOn (is_taken old.tenants) old.places new.places
 
@@ -64,12 +66,14 @@ pub record IsLeft (old new : VaultState) : Type 0 where
 -- the census: reports how many names are catalogued, and changes nothing
 abbrev pub IsCensus : VaultState → Reply → VaultState → Type 0
 IsCensus old (Done text) new = (text ≡ number_line (length old.places.names)) × (new ≡ old)
+IsCensus old Unchanged new = ⊥
 IsCensus old (Refused refusal) new = ⊥
 IsCensus old (Failed fault) new = new ≡ old
 
 -- the check: reports the harms of the files, and changes nothing of the catalogue and of an honest store
 abbrev pub IsCheck : VaultState → Reply → VaultState → Type 0
 IsCheck old (Done text) new = ((harms : Harmed) × (text ≡ harm_lines harms) × AreFound harms old) × IsLeft old new
+IsCheck old Unchanged new = ⊥
 IsCheck old (Refused refusal) new = ⊥
 IsCheck old (Failed fault) new = IsLeft old new
 

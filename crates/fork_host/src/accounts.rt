@@ -37,7 +37,7 @@ ghost use Rattle.fork_host.specs.Uploads.{upload_at, uploading_in};
 ghost use Rattle.fork_host.specs.Shown.{Account, IsWhole, Trusted, shown, state_of, world_of};
 ghost use Rattle.fork_host.specs.Staged.{Came, IsStaged};
 
-use crate::forking::fork_offer;
+use crate::fork_offer::fork_offer;
 use crate::keeping::keep_tenant;
 use crate::made::Made;
 use crate::meeting::Met;
@@ -48,7 +48,7 @@ use crate::tenant::Tenant;
 use fork_ledger::Vault;
 use fork_request::{HostFault, Refusal, Reply, RepositoryName, Request, TenantName};
 use loose_store::LooseFiles;
-use push_stream::Incoming;
+use push_stream::OpenUpload;
 use state_text::States;
 use std::alloc::{AllocError, Global};
 use std::collections::BTreeMap;
@@ -297,7 +297,7 @@ fn read_upload<S: LooseFiles>(
     alloc: Global,
     vault: &mut Vault<S>,
     name: &TenantName,
-    upload: &Incoming,
+    upload: &OpenUpload,
 ) -> Result<Vec<u8>, HostFault>
     requires staged { IsStaged vault.old.honest (Some upload.now.brief) (staged_in vault.old name.now) }
     ensures opens { (bytes : List ℕ) → IsTrue vault.old.honest → Came vault.old.honest bytes upload.now.brief (staged_in vault.old name.now) → IfOk result (λ again. upload_of again.items ≡ upload_of bytes) }

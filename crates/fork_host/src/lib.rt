@@ -5,7 +5,7 @@
 mod accounts;
 mod add_error;
 mod both;
-mod forking;
+mod fork_offer;
 mod host;
 mod items;
 mod keeping;

@@ -2,7 +2,7 @@
 ghost use Rattle.std.specs.Prelude.{◌≡◌, ◌≤◌, ◌++◌, ℕ, List, IfOk, IfErr, IsTrue, OnOk, Some, map as each, replicate, true};
 ghost use Rattle.std.specs.FinMap as map;
 ghost use Rattle.std.specs.List.{AllByRecursion};
-ghost use Rattle.push_stream.specs.declared.upload.TheConstants.{MAX_UPLOAD};
+ghost use Rattle.push_stream.specs.declared.upload_limit.TheConstants.{MAX_UPLOAD};
 ghost use Rattle.push_stream.specs.Record.{record_of};
 ghost use Rattle.push_stream.specs.Spelling.{records_of};
 ghost use Rattle.push_stream.specs.Upload.{upload_of};
@@ -16,14 +16,14 @@ use crate::replies::vault_fault;
 use fork_request::HostFault;
 use git_name::{Name, Sealed};
 use loose_store::LooseFiles;
-use push_stream::{Incoming, Sent, streams_hold_objects, write_record};
+use push_stream::{OpenUpload, Sent, streams_hold_objects, write_record};
 use std::alloc::{AllocError, Global};
 
 // The bytes that open an upload again, with the objects that the tenant has staged for it.
 pub(crate) fn bytes_of<S: LooseFiles>(
     alloc: Global,
     own: &mut Own<'_, S>,
-    upload: &Incoming,
+    upload: &OpenUpload,
 ) -> Result<Vec<u8>, HostFault>
     requires staged { IsStaged own.old.vault.now.honest (Some upload.now.brief) (staged_by own.old) }
     ensures opens { (bytes : List ℕ) → IsTrue own.old.vault.now.honest → Came own.old.vault.now.honest bytes upload.now.brief (staged_by own.old) → IfOk result (λ again. upload_of again.items ≡ upload_of bytes) }

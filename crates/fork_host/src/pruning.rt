@@ -1,5 +1,6 @@
-ghost use Rattle.std.specs.Prelude.{◌≡◌, [], IsTrue, true};
+ghost use Rattle.std.specs.Prelude.{◌≡◌, ◌<◌, ◌^◌, [], IsTrue, true};
 ghost use Rattle.std.specs.FinMap as map;
+ghost use Rattle.fork_reach.specs.Objects.{use_of};
 ghost use Rattle.fork_reach.specs.Reach.{is_reached, linked_names};
 ghost use Rattle.fork_host.specs.Bounds.{IsBounded};
 ghost use Rattle.fork_host.specs.Handle.{Uses, visible_by};
@@ -7,7 +8,7 @@ ghost use Rattle.fork_host.specs.Own.{visible_in};
 ghost use Rattle.fork_host.specs.Rows.{KeepsObjects, IsPruned};
 
 use crate::own::Own;
-use crate::replies::{done, host_fault};
+use crate::replies::{done_or_unchanged, host_fault};
 use fork_request::Reply;
 use git_name::Name;
 use loose_store::LooseFiles;
@@ -20,6 +21,7 @@ pub(crate) fn keep_reached<S: LooseFiles>(
     roots: &[Name],
 ) -> Reply
     requires there { map.contains_key own.old.vault.now.tenants own.old.tenant.now ≡ true }
+    requires within { use_of (visible_by own.old) < 2 ^ 64 }
     ensures kept { IsTrue own.old.vault.now.honest → KeepsObjects (map.retain_keys (visible_by own.old) (is_reached (linked_names (visible_by own.old)) (visible_by own.old) roots.now)) (visible_by own.old) result (visible_in own.new.vault.now own.old.tenant.now) }
     // Over any store.
     ensures pruned { IsPruned roots.now (visible_by own.old) result (visible_in own.new.vault.now own.old.tenant.now) }
@@ -28,8 +30,9 @@ pub(crate) fn keep_reached<S: LooseFiles>(
 {
     match own.reached(alloc, roots) {
         Ok(names) => {
+            let before = own.used();
             own.keep_only(&names);
-            done(alloc)
+            done_or_unchanged(alloc, own.used() == before)
         }
         Err(fault) => Reply::Failed(host_fault(fault)),
     }

@@ -1,5 +1,5 @@
 // Replies to requests that return no data.
-ghost use Rattle.std.specs.Prelude.{◌≡◌, ◌⊎◌, [], ◌++◌, codes, decimal};
+ghost use Rattle.std.specs.Prelude.{◌≡◌, ◌⊎◌, [], ◌++◌, codes, cond, decimal};
 ghost use Rattle.fork_request.specs.declared.refusal.Refusal.TheVariants.{BadName, BadRef};
 ghost use Rattle.fork_request.specs.Told.{is_done, is_host_fault};
 ghost use Rattle.fork_model.specs.Answer.{command_refusal, push_refusal, stream_refusal, transaction_refusal};
@@ -20,7 +20,7 @@ pub(crate) fn is_done(reply: &Reply) -> bool
     ensures { result ≡ is_done reply.now }
 {
     match reply {
-        Reply::Done(_) => true,
+        Reply::Done(_) | Reply::Unchanged => true,
         _ => false,
     }
 }
@@ -40,6 +40,16 @@ pub(crate) fn done(alloc: Global) -> Reply
     ensures { result ≡ Reply.Done [] }
 {
     Reply::Done(ByteString::new(Vec::new(alloc)))
+}
+
+// A reply without data, which says whether the view is as it was.
+pub(crate) fn done_or_unchanged(alloc: Global, is_same: bool) -> Reply
+    ensures { result ≡ cond is_same Reply.Unchanged (Reply.Done []) }
+{
+    if is_same {
+        return Reply::Unchanged;
+    }
+    done(alloc)
 }
 
 // What is used, and the limit.

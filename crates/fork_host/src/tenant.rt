@@ -32,7 +32,7 @@ use crate::repositories::Repositories;
 use fork_request::{Refusal, Reply, Request};
 use git_name::Name;
 use loose_store::LooseFiles;
-use push_stream::Incoming;
+use push_stream::OpenUpload;
 use std::alloc::Global;
 use std::marker::Model;
 
@@ -41,7 +41,7 @@ use std::marker::Model;
 pub(crate) struct Tenant {
     repositories: Repositories,
     made: Made,
-    upload: Option<Incoming>,
+    upload: Option<OpenUpload>,
     limit: u64,
 }
 

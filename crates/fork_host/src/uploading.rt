@@ -16,7 +16,7 @@ use crate::replies::{done, vault_fault};
 use crate::staging::{discard, stage_all};
 use fork_request::{HostFault, Refusal, Reply};
 use loose_store::LooseFiles;
-use push_stream::{Incoming, MAX_UPLOAD};
+use push_stream::{MAX_UPLOAD, OpenUpload};
 use std::alloc::Global;
 
 // Receives a piece of an upload, if there is room for it. Stages its objects beside the earlier ones; if the stream is
@@ -24,7 +24,7 @@ use std::alloc::Global;
 pub(crate) fn feed<S: LooseFiles>(
     alloc: Global,
     own: &mut Own<'_, S>,
-    upload: &mut Incoming,
+    upload: &mut OpenUpload,
     piece: &[u8],
 ) -> Reply
     requires there { map.contains_key own.old.vault.now.tenants own.old.tenant.now ≡ true }

@@ -10,12 +10,12 @@ mod harms;
 mod held;
 mod laws;
 mod leading;
-mod looking;
 mod reading;
 mod recalling;
 mod receiving;
 mod staging;
 mod survey;
+mod sweep_step;
 mod sweeping;
 mod vault;
 

@@ -11,7 +11,7 @@ ghost use Rattle.fork_ledger.specs.Led.{AreLed};
 ghost use Rattle.fork_ledger.specs.Store.{CountsFault};
 
 use crate::fault::VaultFault;
-use crate::looking::look_once;
+use crate::sweep_step::look_once;
 use loose_store::LooseFiles;
 use object_table::Holdings;
 use read_cache::CachedStore;

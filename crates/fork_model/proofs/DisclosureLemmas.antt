@@ -12,7 +12,7 @@ use Rattle.fork_request.specs.Names.{is_plain_name}
 use Rattle.fork_request.specs.Told.{is_done, is_host_fault}
 use Rattle.fork_request.specs.declared.refusal.Refusal.TheVariants.{BadName, NoOffer, UnknownTenant}
 use Rattle.fork_request.specs.declared.reply.Reply.{Reply}
-use Rattle.fork_request.specs.declared.reply.Reply.TheVariants.{Done, Refused, Failed}
+use Rattle.fork_request.specs.declared.reply.Reply.TheVariants.{Done, Unchanged, Refused, Failed}
 use Rattle.fork_model.specs.Answer.{answer, fork_offer_answer, fork_offered, named_repository, offer_answer, withdraw_answer}
 use Rattle.fork_model.specs.Context.{Context, met_by, offered_to}
 use Rattle.fork_model.specs.Disclosure.{Asked, Changes, Happening, change_in, changes_offers, happenings, looks_at_offers, met_along, with_change, word_of}
@@ -64,6 +64,7 @@ done_where_dealt tenant giver ask reply deals = absurd (let no : ⊥ = cc in no)
 
 failed_undone : (reply : Reply) → is_host_fault reply ≡ true → is_done reply ≡ true → ⊥
 failed_undone (Done text) bad done = cc
+failed_undone Unchanged bad done = cc
 failed_undone (Refused refusal) bad done = cc
 failed_undone (Failed fault) bad done = cc
 

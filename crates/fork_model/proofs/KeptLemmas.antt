@@ -175,3 +175,27 @@ entries_kept objects kept =
 pub use_of-kept : (objects : Objects) (kept : List ℕ → Bool) → use_of (retain_keys objects kept) ≤ use_of objects
 unfolding use_of
 use_of-kept objects kept = subst (λ es. use_in es ≤ use_in (entries objects)) (sym (entries_kept objects kept)) (use_in-kept kept (entries objects))
+
+-- what is kept uses as much only if all is kept, since each object uses something
+use_in-all : (kept : List ℕ → Bool) (es : List (List ℕ × Object)) → use_in (filter (λ e. kept e.0) es) ≡ use_in es → filter (λ e. kept e.0) es ≡ es
+use_in-all kept [] same = refl
+use_in-all kept (e ∷ es) same = by (kept e.0) refl (use_in-all kept es)
+  where
+    by : (b : Bool) → kept e.0 ≡ b → (use_in (filter (λ f. kept f.0) es) ≡ use_in es → filter (λ f. kept f.0) es ≡ es) → filter (λ f. kept f.0) (e ∷ es) ≡ e ∷ es
+    by true is rest =
+        let left = filter (λ f. kept f.0) es in
+        let first = ap (λ c. cond c (e ∷ left) left) is in
+        let more : use_in left ≡ use_in es = (let one = use_in-cons e left in let all = use_in-cons e es in let here = sym (ap use_in first) ∙ same in omega (arith, one, all, here)) in
+        first ∙ ap (λ fs. e ∷ fs) (rest more)
+    by false is rest =
+        let left = filter (λ f. kept f.0) es in
+        let first = ap (λ c. cond c (e ∷ left) left) is in
+        let no : ⊥ = (let all = use_in-cons e es in let here = sym (ap use_in first) ∙ same in let less = use_in-kept kept es in omega (arith, all, here, less)) in
+        absurd no
+
+pub all_kept : (objects : Objects) (kept : List ℕ → Bool) → use_of (retain_keys objects kept) ≡ use_of objects → retain_keys objects kept ≡ objects
+unfolding use_of
+all_kept objects kept same =
+    let listed = entries_kept objects kept in
+    let all = use_in-all kept (entries objects) (sym (ap use_in listed) ∙ same) in
+    same_map name_total name_exact (retain_keys objects kept) objects (λ q. get-entries (retain_keys objects kept) q ∙ ap (find name_cmp q) (listed ∙ all) ∙ sym (get-entries objects q))

@@ -1,6 +1,6 @@
 -- What each row of the answer does: it refuses and leaves what a refusal leaves, or it succeeds and leaves a sound view sound.
 use Rattle.std.proofs.Common.{◌≡◌, ℕ, ◌+◌, ◌≤◌, Bool, true, false, cond, List, [], Option, Some, None, Result, Ok, Err, refl, sym, ap, subst, ◌∙◌, arith, is_some, inl, inr, ◌∷◌, ◌&&◌, ◌≢◌, not, length, ◌-◌}
-use Rattle.std.specs.Prelude.{Contains, nat_le, nat_lt, map}
+use Rattle.std.specs.Prelude.{Contains, nat_eq, nat_le, nat_lt, map}
 use Rattle.std.specs.Option.{option_map}
 use Rattle.std.specs.Ordering.{eq_by_cmp}
 use Rattle.std.specs.FinMap.{get, get-insert, get-remove, get-empty, insert, remove, retain_keys, contains_key, len, len-insert, len-remove, len-empty, len-entries, entries, empty}
@@ -42,7 +42,7 @@ use Rattle.fork_request.proofs.NameLemmas.{plain_name}
 use Rattle.fork_request.specs.declared.refusal.Refusal.{Refusal}
 use Rattle.fork_request.specs.declared.refusal.Refusal.TheVariants.{BadName, BadRef, BadRequest, NoOffer, NoRepository, NoUpload, OfferExists, OverQuota, RepositoryExists, StagedTooLong, TooMany, UploadOpen}
 use Rattle.fork_request.specs.declared.reply.Reply.{Reply}
-use Rattle.fork_request.specs.declared.reply.Reply.TheVariants.{Done, Refused}
+use Rattle.fork_request.specs.declared.reply.Reply.TheVariants.{Done, Unchanged, Refused}
 use Rattle.fork_model.specs.Answer.{Finished, answer, fork_offer_answer, fork_offered, named_receiver, offer_added, offer_answer, offer_in, offer_taken, offers_answer, withdraw_answer, withdrawn, left_by, without_upload, init_answer, drop_answer, fork_answer, push_answer, part_answer, part_end_answer, part_drop_answer, update_answer, set_head_answer, cat_file_answer, ls_tree_answer, rev_list_answer, merge_base_answer, fetch_answer, references_answer, head_answer, quota_answer, repositories_answer, prune_answer, pruned, roots_of, named_repository, repository_added, dropped, copied, push_into, pushed, taken, open_upload, upload_into, end_in, upload_ended, update_in, carried_out, with_references, with_head, set_head_in, reply_of, told_over, told_references, transaction_refusal, command_refusal, push_refusal}
 use Rattle.fork_model.specs.Context.{Context}
 use Rattle.fork_model.specs.Offer.{Offer, Offers, Pair, offered}
@@ -50,7 +50,7 @@ use Rattle.fork_model.specs.Sound.{AreReferences, IsOffer, IsOrderly, IsReach, I
 use Rattle.fork_model.specs.View.{View, Repositories}
 use Rattle.fork_reach.proofs.KeptObjects.{at_key, kept_all, named_all, tied_names}
 use Rattle.fork_model.proofs.ClosedLemmas.{closed_both, right_both}
-use Rattle.fork_model.proofs.KeptLemmas.{closed_kept, named_kept, offer_rooted, references_right, right_kept, target_rooted, use_of-kept}
+use Rattle.fork_model.proofs.KeptLemmas.{all_kept, closed_kept, named_kept, offer_rooted, references_right, right_kept, target_rooted, use_of-kept}
 use Rattle.fork_model.proofs.EntryLemmas.{pair_total}
 use Rattle.fork_model.proofs.OfferLemmas.{AreAmong, among_joined, left_before, new_reach, offer_inserted, other_inserted, other_removed, reach_grows, reach_kept}
 use Rattle.fork_model.proofs.PushLemmas.{AreHeld, IsAccepted, accepted, held_right}
@@ -299,20 +299,27 @@ changed_by (MakesOffer repository receiver) = Some (receiver, repository)
 changed_by (Withdraws repository receiver) = Some (receiver, repository)
 changed_by ask = None
 
-pub data GoesTo (context : Context) (view left : View) (changed : Option Pair) (row : Reply × View) : Type 0 where
+-- whether a request may be answered that it left the view
+abbrev pub may_stay : Ask → Bool
+may_stay Prunes = true
+may_stay ask = false
+
+pub data GoesTo (context : Context) (view left : View) (changed : Option Pair) (stays : Bool) (row : Reply × View) : Type 0 where
   -- a refusal, which leaves this view
-  Refuses : (refusal : Refusal) → row.0 ≡ Refused refusal → row.1 ≡ left → GoesTo context view left changed row
+  Refuses : (refusal : Refusal) → row.0 ≡ Refused refusal → row.1 ≡ left → GoesTo context view left changed stays row
+  -- `ok` alone, and the view as it was
+  Stays : stays ≡ true → row.0 ≡ Unchanged → row.1 ≡ view → GoesTo context view left changed stays row
   -- data, the same offers but for one, and a view that stays in order and right, if what is offered may be taken
   Does : (text : List ℕ) → row.0 ≡ Done text → SameBut changed view.made row.1.made
-      → (MayTake context view.objects → IsOrderly view → IsOrderly row.1) → (IsSoundBeside context view.objects → IsSound view → IsRight row.1) → GoesTo context view left changed row
+      → (MayTake context view.objects → IsOrderly view → IsOrderly row.1) → (IsSoundBeside context view.objects → IsSound view → IsRight row.1) → GoesTo context view left changed stays row
 
 module _ (context : Context) where
   -- a row whose refusal leaves the view, and which leaves the offers
   abbrev IsRow : View → Reply × View → Type 0
-  IsRow view row = GoesTo context view view None row
+  IsRow view row = GoesTo context view view None false row
 
   -- a row that does not look at offers
-  does : {view left : View} {changed : Option Pair} {row : Reply × View} → (text : List ℕ) → row.0 ≡ Done text → SameBut changed view.made row.1.made → (IsOrderly view → IsOrderly row.1) → (IsRight view → IsRight row.1) → GoesTo context view left changed row
+  does : {view left : View} {changed : Option Pair} {stays : Bool} {row : Reply × View} → (text : List ℕ) → row.0 ≡ Done text → SameBut changed view.made row.1.made → (IsOrderly view → IsOrderly row.1) → (IsRight view → IsRight row.1) → GoesTo context view left changed stays row
   does text told made orderly right = Does text told made (λ may. orderly) (λ beside sound. right sound.right)
 
   refuses : (view : View) (refusal : Refusal) → IsRow view (Refused refusal, view)
@@ -395,8 +402,9 @@ module _ (context : Context) where
   end_row view word (Some old) there right = upload_row view word old view.upload refl there right
 
   -- a row that ends the upload whatever it answers
-  ended_row : (view : View) (row : Reply × View) → IsRow view row → GoesTo context view (without_upload view) None (upload_ended row)
+  ended_row : (view : View) (row : Reply × View) → IsRow view row → GoesTo context view (without_upload view) None false (upload_ended row)
   ended_row view row (Refuses refusal told kept) = Refuses refusal told (ap without_upload kept)
+  ended_row view row (Stays allowed told same) = absurd (cc)
   ended_row view row (Does text told made orderly right) = Does text told made (λ may before. orderly_without row.1 (orderly may before)) (λ beside before. right_without row.1 (right beside before))
 
   dropped_upload_row : (view : View) → IsRow view (part_drop_answer view)
@@ -456,22 +464,22 @@ module _ (context : Context) where
   listing_row view word prefix (Some repository) = does (listing view.objects repository.references prefix) refl refl (λ was. was) (λ was. was)
 
   -- a row by a test, whichever offer it changes
-  either_to : (view : View) (changed : Option Pair) (b : Bool) (x y : Reply × View) → (b ≡ true → GoesTo context view view changed x) → (b ≡ false → GoesTo context view view changed y) → GoesTo context view view changed (cond b x y)
+  either_to : (view : View) (changed : Option Pair) (b : Bool) (x y : Reply × View) → (b ≡ true → GoesTo context view view changed false x) → (b ≡ false → GoesTo context view view changed false y) → GoesTo context view view changed false (cond b x y)
   either_to view changed true x y left right = left refl
   either_to view changed false x y left right = right refl
 
-  refuses_to : (view : View) (changed : Option Pair) (refusal : Refusal) → GoesTo context view view changed (Refused refusal, view)
+  refuses_to : (view : View) (changed : Option Pair) (refusal : Refusal) → GoesTo context view view changed false (Refused refusal, view)
   refuses_to view changed refusal = Refuses refusal refl refl
 
-  named_to : (view : View) (changed : Option Pair) (word : List ℕ) (row : Reply × View) → (IsRepositoryName word → GoesTo context view view changed row) → GoesTo context view view changed (named_repository view word row)
+  named_to : (view : View) (changed : Option Pair) (word : List ℕ) (row : Reply × View) → (IsRepositoryName word → GoesTo context view view changed false row) → GoesTo context view view changed false (named_repository view word row)
   named_to view changed word row right = either_to view changed (is_plain_name 64 word) row (Refused (BadName word), view) (λ is. right (plain_name 64 word is)) (λ _. refuses_to view changed (BadName word))
 
-  receiver_to : (view : View) (changed : Option Pair) (word : List ℕ) (row : Reply × View) → (IsTenantName word → GoesTo context view view changed row) → GoesTo context view view changed (named_receiver context view word row)
+  receiver_to : (view : View) (changed : Option Pair) (word : List ℕ) (row : Reply × View) → (IsTenantName word → GoesTo context view view changed false row) → GoesTo context view view changed false (named_receiver context view word row)
   receiver_to view changed word row right =
       either_to view changed (is_plain_name 32 word && not (same_name word context.own)) row (Refused (BadName word), view)
       (λ is. right (plain_name 32 word (and_parts (is_plain_name 32 word) (not (same_name word context.own)) is).0)) (λ _. refuses_to view changed (BadName word))
 
-  offer_added_row : (view : View) (word receiver : List ℕ) (repository : Repository) → get view.repositories word ≡ Some repository → IsRepositoryName word → IsTenantName receiver → GoesTo context view view (Some (receiver, word)) (offer_added view (receiver, word) repository)
+  offer_added_row : (view : View) (word receiver : List ℕ) (repository : Repository) → get view.repositories word ≡ Some repository → IsRepositoryName word → IsTenantName receiver → GoesTo context view view (Some (receiver, word)) false (offer_added view (receiver, word) repository)
   offer_added_row view word receiver repository there named receiver_named =
       let key : Pair = (receiver, word) in
       let new = offered view.objects repository in
@@ -484,11 +492,11 @@ module _ (context : Context) where
       (λ beside sound. right_offers view (insert view.made key new) sound.right
       (offer_inserted (λ k o. IsReach view.objects o) view.made key new (new_reach view.objects repository (λ reference target points. ((sound.orderly.references word repository there).each reference target points).there)) sound.right.offered))))
 
-  offer_row : (view : View) (word receiver : List ℕ) (o : Option Repository) → get view.repositories word ≡ o → IsRepositoryName word → IsTenantName receiver → GoesTo context view view (Some (receiver, word)) (offer_in view word receiver o)
+  offer_row : (view : View) (word receiver : List ℕ) (o : Option Repository) → get view.repositories word ≡ o → IsRepositoryName word → IsTenantName receiver → GoesTo context view view (Some (receiver, word)) false (offer_in view word receiver o)
   offer_row view word receiver None there named receiver_named = refuses_to view (Some (receiver, word)) (NoRepository word)
   offer_row view word receiver (Some repository) there named receiver_named = offer_added_row view word receiver repository there named receiver_named
 
-  withdrawn_row : (view : View) (key : Pair) → GoesTo context view view (Some key) (withdrawn view key)
+  withdrawn_row : (view : View) (key : Pair) → GoesTo context view view (Some key) false (withdrawn view key)
   withdrawn_row view key =
       either_to view (Some key) (contains_key view.made key) (Done [], record view { made = remove view.made key }) (Refused (NoOffer key.0 key.1), view) (λ _.
       does [] refl (other_removed view.made key)
@@ -533,8 +541,12 @@ module _ (context : Context) where
   fork_offered_row view key copy None stands named = refuses view (NoOffer key.0 key.1)
   fork_offered_row view key copy (Some offer) stands named = offer_taken_row view key copy offer stands named
 
+  prune_row : (view : View) (all : Bool) → nat_eq (use_of (pruned view).objects) (use_of view.objects) ≡ all → GoesTo context view view None true (cond all Unchanged (Done []), pruned view)
+  prune_row view true is = Stays refl refl (ap (λ (o : Objects). record view { objects = o }) (all_kept view.objects (is_reached (linked_names view.objects) view.objects (roots_of view)) (grind (arith, nat_tests))))
+  prune_row view false is = does [] refl refl (orderly_pruned view) (right_pruned view)
+
   -- each answer is such a row
-  pub answer_row : (view : View) (ask : Ask) → GoesTo context view (left_by view ask) (changed_by ask) (answer context view ask)
+  pub answer_row : (view : View) (ask : Ask) → GoesTo context view (left_by view ask) (changed_by ask) (may_stay ask) (answer context view ask)
   unfolding answer offer_answer withdraw_answer fork_offer_answer offers_answer init_answer drop_answer fork_answer push_answer part_end_answer update_answer set_head_answer cat_file_answer ls_tree_answer rev_list_answer merge_base_answer fetch_answer references_answer head_answer quota_answer repositories_answer prune_answer
   answer_row view (Inits word) = named_row view word (repository_added view word new_repository) (λ right. added_row view word new_repository (λ _. new_stands view.objects word right))
   answer_row view (Drops word) = named_row view word (dropped view word) (λ _. dropped_row view word)
@@ -572,5 +584,5 @@ module _ (context : Context) where
   answer_row view AsksOffers = does _ refl refl (λ was. was) (λ was. was)
   answer_row view AsksUse = does _ refl refl (λ was. was) (λ was. was)
   answer_row view AsksRepositories = does _ refl refl (λ was. was) (λ was. was)
-  answer_row view Prunes = does [] refl refl (orderly_pruned view) (right_pruned view)
+  answer_row view Prunes = prune_row view (nat_eq (use_of (pruned view).objects) (use_of view.objects)) refl
   answer_row view NoRequest = refuses view BadRequest

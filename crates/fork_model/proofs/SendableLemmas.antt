@@ -1,7 +1,7 @@
 -- Answers keep what can be sent, since what is seen was seen before or sent.
 use Rattle.std.proofs.Common.{◌≡◌, ◌∷◌, ℕ, ◌≤◌, List, [], Option, None, Some, refl, sym, subst, ◌∙◌, length}
 use Rattle.git_name.specs.Object.{Object}
-use Rattle.push_stream.specs.declared.record.TheConstants.{MAX_CONTENT}
+use Rattle.push_stream.specs.declared.content_limit.TheConstants.{MAX_CONTENT}
 use Rattle.push_stream.specs.Spelling.{AreWithin}
 use Rattle.push_stream.specs.Stream.{sent_in, stream_of}
 use Rattle.push_stream.specs.Upload.{UploadValue, continued}

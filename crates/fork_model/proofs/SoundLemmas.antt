@@ -6,10 +6,10 @@ use Rattle.fork_model.specs.Answer.{answer, left_by, without_upload}
 use Rattle.fork_model.specs.Context.{Context}
 use Rattle.fork_model.specs.Offer.{Offers, Pair}
 use Rattle.fork_model.specs.Sound.{IsOrderly, IsRight, IsSound, IsSoundBeside, MayTake}
-use Rattle.std.specs.Prelude.{Option, Some, None}
+use Rattle.std.specs.Prelude.{Bool, Option, Some, None}
 use Rattle.std.specs.FinMap.{get}
 use Rattle.fork_model.specs.View.{View}
-use Rattle.fork_model.proofs.Rows.{GoesTo, Refuses, Does, SameBut, answer_row, changed_by, orderly_without, right_without}
+use Rattle.fork_model.proofs.Rows.{GoesTo, Refuses, Stays, Does, SameBut, answer_row, changed_by, orderly_without, right_without}
 
 -- what holds of a view, and of it without the upload, holds of what a refusal leaves
 left_holds : (P : View → Type 0) → ((view : View) → P view → P (without_upload view)) → (view : View) (ask : Ask) → P view → P (left_by view ask)
@@ -39,12 +39,14 @@ left_holds P without view Prunes holds = holds
 left_holds P without view NoRequest holds = holds
 
 module _ (context : Context) where
-  row_orderly : (view left : View) (changed : Option Pair) (row : Reply × View) → GoesTo context view left changed row → MayTake context view.objects → IsOrderly view → IsOrderly left → IsOrderly row.1
+  row_orderly : (view left : View) (changed : Option Pair) {stays : Bool} (row : Reply × View) → GoesTo context view left changed stays row → MayTake context view.objects → IsOrderly view → IsOrderly left → IsOrderly row.1
   row_orderly view left changed row (Refuses why told kept) may was after = subst IsOrderly (sym kept) after
+  row_orderly view left changed row (Stays allowed told same) may was after = subst IsOrderly (sym same) was
   row_orderly view left changed row (Does text told made orderly right) may was after = orderly may was
 
-  row_right : (view left : View) (changed : Option Pair) (row : Reply × View) → GoesTo context view left changed row → IsSoundBeside context view.objects → IsSound view → IsRight left → IsRight row.1
+  row_right : (view left : View) (changed : Option Pair) {stays : Bool} (row : Reply × View) → GoesTo context view left changed stays row → IsSoundBeside context view.objects → IsSound view → IsRight left → IsRight row.1
   row_right view left changed row (Refuses why told kept) beside was after = subst IsRight (sym kept) after
+  row_right view left changed row (Stays allowed told same) beside was after = subst IsRight (sym same) was.right
   row_right view left changed row (Does text told made orderly right) beside was after = right beside was
 
   pub orderly_answer : (view : View) (ask : Ask) → MayTake context view.objects → IsOrderly view → IsOrderly (answer context view ask).1
@@ -57,8 +59,9 @@ module _ (context : Context) where
   same_but None old new is = is
   same_but (Some key) old new is = λ other apart. ap (λ (made : Offers). get made other) is
 
-  row_made : (view left : View) (changed : Option Pair) (row : Reply × View) → GoesTo context view left changed row → left.made ≡ view.made → SameBut changed view.made row.1.made
+  row_made : (view left : View) (changed : Option Pair) {stays : Bool} (row : Reply × View) → GoesTo context view left changed stays row → left.made ≡ view.made → SameBut changed view.made row.1.made
   row_made view left changed row (Refuses why told kept) after = same_but changed view.made row.1.made (ap (λ (v : View). v.made) kept ∙ after)
+  row_made view left changed row (Stays allowed told same) after = same_but changed view.made row.1.made (ap (λ (v : View). v.made) same)
   row_made view left changed row (Does text told made orderly right) after = made
 
   -- the offers that a tenant has made stay, except for the one that the request changes

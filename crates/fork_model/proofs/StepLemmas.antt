@@ -3,17 +3,18 @@ use Rattle.std.proofs.Common.{◌≡◌, false, refl, sym, ap}
 use Rattle.fork_request.specs.Asked.{Ask, Inits, Drops, Forks, Pushes, SendsPart, EndsParts, DropsParts, Updates, SetsHead, MakesOffer, Withdraws, ForksOffer, AsksObject, AsksTree, AsksRevisions, AsksBases, AsksReferences, AsksHead, AsksOffers, AsksRepositories, Fetches, AsksUse, Prunes, NoRequest}
 use Rattle.fork_request.specs.Told.{is_done, is_host_fault}
 use Rattle.fork_request.specs.declared.reply.Reply.{Reply}
-use Rattle.fork_request.specs.declared.reply.Reply.TheVariants.{Done, Refused, Failed}
+use Rattle.fork_request.specs.declared.reply.Reply.TheVariants.{Done, Unchanged, Refused, Failed}
 use Rattle.fork_model.specs.Answer.{answer, left_by, without_upload}
-use Rattle.std.specs.Prelude.{Option}
+use Rattle.std.specs.Prelude.{Bool, Option}
 use Rattle.fork_model.specs.Context.{Context}
 use Rattle.fork_model.specs.Offer.{Pair}
 use Rattle.fork_model.specs.View.{View}
 use Rattle.fork_model.proofs.Refusals.{refusal_keeps}
-use Rattle.fork_model.proofs.Rows.{GoesTo, Refuses, Does, answer_row}
+use Rattle.fork_model.proofs.Rows.{GoesTo, Refuses, Stays, Does, answer_row}
 
-row_tells : {context : Context} {changed : Option Pair} (view left : View) (row : Reply × View) → GoesTo context view left changed row → is_host_fault row.0 ≡ false
+row_tells : {context : Context} {changed : Option Pair} {stays : Bool} (view left : View) (row : Reply × View) → GoesTo context view left changed stays row → is_host_fault row.0 ≡ false
 row_tells view left row (Refuses why told kept) = ap is_host_fault told
+row_tells view left row (Stays allowed told same) = ap is_host_fault told
 row_tells view left row (Does text told made orderly right) = ap is_host_fault told
 
 -- no answer is a host fault
@@ -23,6 +24,7 @@ answer_tells context view ask = row_tells view (left_by view ask) (answer contex
 -- an answer without data leaves what a refusal leaves
 pub undone : (context : Context) (view : View) (ask : Ask) (reply : Reply) → reply ≡ (answer context view ask).0 → is_done reply ≡ false → (answer context view ask).1 ≡ left_by view ask
 undone context view ask (Done text) is not_done = absurd (cc)
+undone context view ask Unchanged is not_done = absurd (cc)
 undone context view ask (Refused refusal) is not_done = refusal_keeps context view ask refusal (sym is)
 undone context view ask (Failed fault) is not_done = (let told = answer_tells context view ask in let no : ⊥ = cc (ap is_host_fault is) in absurd no)
 

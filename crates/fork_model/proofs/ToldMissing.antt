@@ -1,6 +1,6 @@
 -- `missing` is reported only if the tenant lacks what it names.
 use Rattle.std.proofs.Common.{◌≡◌, ℕ, ◌+◌, Bool, true, false, cond, List, [], Option, None, Some, is_some, refl, sym, ap, ◌∙◌, length, Ok}
-use Rattle.std.specs.Prelude.{nat_le, nat_lt}
+use Rattle.std.specs.Prelude.{nat_eq, nat_le, nat_lt}
 use Rattle.std.specs.FinMap.{get, contains_key, insert, len, remove}
 use Rattle.git_reftx.specs.Repository.{Repository, branch_in, new_repository}
 use Rattle.push_stream.specs.Upload.{continued}
@@ -16,10 +16,10 @@ use Rattle.fork_request.specs.Asked.{Ask, Inits, Drops, Forks, Pushes, SendsPart
 use Rattle.fork_request.specs.Names.{is_plain_name}
 use Rattle.fork_request.specs.declared.refusal.Refusal.TheVariants.{BadName, Missing, NoRepository, NoUpload, RepositoryExists, StagedTooLong, TooMany, NoOffer, OfferExists, OverQuota}
 use Rattle.fork_request.specs.declared.reply.Reply.{Reply}
-use Rattle.fork_request.specs.declared.reply.Reply.TheVariants.{Done, Refused}
+use Rattle.fork_request.specs.declared.reply.Reply.TheVariants.{Done, Unchanged, Refused}
 use Rattle.git_name.specs.Maps.{joined}
 use Rattle.fork_reach.specs.Objects.{use_of}
-use Rattle.fork_model.specs.Answer.{fork_offer_answer, fork_offered, offer_answer, offer_in, offers_answer, withdraw_answer, answer, init_answer, drop_answer, fork_answer, push_answer, part_answer, part_end_answer, part_drop_answer, update_answer, set_head_answer, cat_file_answer, ls_tree_answer, rev_list_answer, merge_base_answer, fetch_answer, references_answer, head_answer, quota_answer, repositories_answer, prune_answer, copied, end_in, few_items, named_repository, repository_added, open_upload, push_into, told_over, told_references, update_in, without_upload, set_head_in, with_head}
+use Rattle.fork_model.specs.Answer.{fork_offer_answer, fork_offered, offer_answer, offer_in, offers_answer, withdraw_answer, answer, init_answer, drop_answer, fork_answer, push_answer, part_answer, part_end_answer, part_drop_answer, update_answer, set_head_answer, cat_file_answer, ls_tree_answer, rev_list_answer, merge_base_answer, fetch_answer, references_answer, head_answer, quota_answer, repositories_answer, prune_answer, pruned, copied, end_in, few_items, named_repository, repository_added, open_upload, push_into, told_over, told_references, update_in, without_upload, set_head_in, with_head}
 use Rattle.fork_model.specs.Offer.{Offer, Pair}
 use Rattle.fork_model.specs.Context.{Context, met_by}
 use Rattle.fork_model.specs.Missing.{IsMissing}
@@ -86,6 +86,10 @@ fork_offered_row view name key copy (Some offer) =
     (either name (nat_le 256 (len view.repositories)) (Refused TooMany, view) _ (λ tells. cc)
     (either name (nat_lt view.limit (use_of (joined view.objects offer.objects))) (Refused OverQuota, view) _ (λ tells. cc) (λ tells. cc)))
 
+never_pruned : {A : Type 0} (name : List ℕ) (all : Bool) → cond all Unchanged (Done []) ≡ Refused (Missing name) → A
+never_pruned name true is = absurd (cc)
+never_pruned name false is = absurd (cc)
+
 -- for each request
 pub missing_of : (context : Context) (view : View) (name : List ℕ) (ask : Ask) → (answer context view ask).0 ≡ Refused (Missing name) → IsMissing view name ask
 unfolding answer offer_answer withdraw_answer fork_offer_answer offers_answer init_answer drop_answer fork_answer push_answer part_end_answer update_answer set_head_answer cat_file_answer ls_tree_answer rev_list_answer merge_base_answer fetch_answer references_answer head_answer quota_answer repositories_answer prune_answer object_told tree_told revisions_told fetch_told
@@ -137,7 +141,7 @@ missing_of context view name (ForksOffer giver word copy) is =
 missing_of context view name AsksOffers is = cc
 missing_of context view name AsksUse is = cc
 missing_of context view name AsksRepositories is = cc
-missing_of context view name Prunes is = cc
+missing_of context view name Prunes is = never_pruned name (nat_eq (use_of (pruned view).objects) (use_of view.objects)) is
 missing_of context view name NoRequest is = cc
 
 some_same : (a b : View) → Some a ≡ Some b → a ≡ b

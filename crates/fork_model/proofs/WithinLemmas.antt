@@ -14,7 +14,7 @@ use Rattle.git_reftx.specs.declared.reading.TheConstants.{MAX_COMMANDS}
 use Rattle.git_reftx.specs.Line.{LineAt, Whole, Unfinished, TooLong, line_at}
 use Rattle.git_reftx.specs.Reading.{command_at}
 use Rattle.push_stream.specs.declared.fault.StreamFault.TheVariants.{TooMany, TooLarge, Syntax, BadObject}
-use Rattle.push_stream.specs.declared.record.TheConstants.{MAX_CONTENT}
+use Rattle.push_stream.specs.declared.content_limit.TheConstants.{MAX_CONTENT}
 use Rattle.push_stream.specs.Record.{PartsAt, Parts, Short, Faulty, RecordAt, Taken, Open, Wrong, content_at, parts_of_content, head_of_words, parts_at, parts_of_head, parts_of_line, record_of_parts, record_at}
 use Rattle.push_stream.specs.Spelling.{AreWithin}
 use Rattle.push_stream.specs.Stream.{Stream, Flows, Breaks, sent_in, behind, after_record, records_in, after_command, header_in, stream_of}

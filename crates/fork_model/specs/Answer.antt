@@ -1,7 +1,7 @@
 -- The answer to each request: the reply, and the view afterwards. Refusals are listed in the order in which they are judged.
-use Rattle.std.specs.Prelude.{ℕ, ◌+◌, nat_le, nat_lt, List, [], ◌++◌, ◌&&◌, not, length, codes, decimal, Option, Some, None, is_some, Result, Ok, Err, if◌then◌else◌}
+use Rattle.std.specs.Prelude.{ℕ, ◌+◌, nat_eq, nat_le, nat_lt, List, [], ◌++◌, ◌&&◌, not, length, codes, decimal, Option, Some, None, is_some, Result, Ok, Err, if◌then◌else◌}
 use Rattle.fork_request.specs.declared.name.TheConstants.{MAX_REPOSITORY_NAME, MAX_TENANT_NAME}
-use Rattle.push_stream.specs.declared.upload.TheConstants.{MAX_UPLOAD}
+use Rattle.push_stream.specs.declared.upload_limit.TheConstants.{MAX_UPLOAD}
 use Rattle.fork_model.specs.declared.limits.TheConstants.{MAX_ITEMS, MAX_OFFERS, MAX_REPOSITORIES}
 use Rattle.std.specs.List.{flat_map}
 use Rattle.std.specs.FinMap.{get, insert, remove, contains_key, keys, len, retain_keys, values}
@@ -39,7 +39,7 @@ use Rattle.fork_request.specs.Names.{is_plain_name}
 use Rattle.fork_request.specs.declared.refusal.Refusal.{Refusal}
 use Rattle.fork_request.specs.declared.refusal.Refusal.TheVariants.{BadRequest, BadName, RepositoryExists, NoRepository, BadRef, RepeatedRef, Stale, RefConflict, NotACommit, Missing, WrongType, OverQuota, TooMany, Syntax, WrongName, BadObject, Truncated, TooLarge, StagedTooLong, NoUpload, UploadOpen, OfferExists, NoOffer}
 use Rattle.fork_request.specs.declared.reply.Reply.{Reply}
-use Rattle.fork_request.specs.declared.reply.Reply.TheVariants.{Done, Refused}
+use Rattle.fork_request.specs.declared.reply.Reply.TheVariants.{Done, Unchanged, Refused}
 use Rattle.fork_model.specs.Context.{Context}
 use Rattle.fork_model.specs.Offer.{Offer, Offers, Pair, offered}
 use Rattle.fork_model.specs.View.{View, Repositories}
@@ -336,8 +336,12 @@ roots_of view = targets_of view.repositories ++ targets_made view.made
 abbrev pub pruned : View → View
 pruned view = record view { objects = retain_keys view.objects (is_reached (linked_names view.objects) view.objects (roots_of view)) }
 
+-- the reply: `Unchanged` if what is kept uses as much as there was, so that all is kept
+abbrev pub pruned_reply : Objects → Objects → Reply
+pruned_reply old kept = if nat_eq (use_of kept) (use_of old) then Unchanged else Done []
+
 unfoldable pub prune_answer : View → Reply × View
-prune_answer view = (Done [], pruned view)
+prune_answer view = (pruned_reply view.objects (pruned view).objects, pruned view)
 
 -- the reply to a tenant's request in this context, and the view afterwards
 unfoldable pub answer : Context → View → Ask → Reply × View

@@ -1,9 +1,9 @@
 -- Sound views (own). A view is in order if references name existing objects and the limits hold. It is right if objects are under
 -- their own names, are in their grammars and link to existing objects.
 use Rattle.std.specs.Prelude.{◌≡◌, ◌≢◌, ℕ, ◌≤◌, Bool, true, false, List, [], ◌∷◌, Some, None, ⊤}
-use Rattle.fork_request.specs.declared.limit.TheConstants.{MAX_LIMIT}
+use Rattle.fork_request.specs.declared.tenant_limit.TheConstants.{MAX_LIMIT}
 use Rattle.git_reftx.specs.declared.transact.TheConstants.{MAX_REFERENCES}
-use Rattle.push_stream.specs.declared.upload.TheConstants.{MAX_UPLOAD}
+use Rattle.push_stream.specs.declared.upload_limit.TheConstants.{MAX_UPLOAD}
 use Rattle.fork_model.specs.declared.limits.TheConstants.{MAX_OFFERS, MAX_REPOSITORIES, MAX_TENANTS}
 use Rattle.std.specs.List.{AllByRecursion}
 use Rattle.std.specs.FinMap.{get, contains_key, keys, len}

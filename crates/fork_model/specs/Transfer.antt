@@ -3,7 +3,7 @@ use Rattle.std.specs.Prelude.{◌≡◌, ℕ, ◌≤◌, nat_lt, true, List, [],
 use Rattle.std.specs.FinMap.{get, insert, contains_key, values}
 use Rattle.git_name.specs.Object.{Object}
 use Rattle.git_reftx.specs.Repository.{Repository}
-use Rattle.push_stream.specs.declared.record.TheConstants.{MAX_CONTENT}
+use Rattle.push_stream.specs.declared.content_limit.TheConstants.{MAX_CONTENT}
 use Rattle.push_stream.specs.Spelling.{AreWithin}
 use Rattle.push_stream.specs.Stream.{sent_in}
 use Rattle.push_stream.specs.Upload.{UploadValue}

@@ -18,7 +18,7 @@ use Rattle.fork_model.specs.World.{Steps, World}
 use Rattle.fork_program.specs.Changing.{number_told}
 use Rattle.fork_program.specs.Keeping.{IsUnkept, IsUnopened, IsUnrenewed}
 use Rattle.fork_program.specs.declared.fault.Fault.{Fault}
-use Rattle.fork_program.specs.declared.fault.Fault.TheVariants.{TooLarge, BadObject, BadFrame, Read, Write, Memory, Store, Socket, NoState, Unreadable, Journal, OtherJournal, NotKept, NotSaved, Line, Lost, Damaged, Unsound, OverLimit, There, TooManyTenants, NotThere, BelowUse}
+use Rattle.fork_program.specs.declared.fault.Fault.TheVariants.{TooLarge, BadObject, BadFrame, Read, Write, Memory, Store, Socket, NoState, NotPacked, Unreadable, Journal, OtherJournal, NotKept, NotSaved, Line, Lost, Damaged, Unsound, OverLimit, There, TooManyTenants, NotThere, BelowUse}
 
 -- what stands against opening a folder stands against saving it anew
 pub unrenewed : (fault : Fault) → IsUnopened fault → IsUnrenewed fault
@@ -31,6 +31,7 @@ unrenewed Memory why = why
 unrenewed Store why = why
 unrenewed Socket why = why
 unrenewed NoState why = why
+unrenewed NotPacked why = why
 unrenewed Unreadable why = why
 unrenewed Journal why = why
 unrenewed OtherJournal why = why
@@ -57,6 +58,7 @@ unkept Memory why = why
 unkept Store why = why
 unkept Socket why = why
 unkept NoState why = tt
+unkept NotPacked why = why
 unkept Unreadable why = why
 unkept Journal why = why
 unkept OtherJournal why = why
@@ -93,6 +95,7 @@ one_view o v w first then = ap (λ (p : Option View). unwrap_or p v) (sym first 
 
 abbrev text_told : Reply → List ℕ
 text_told (reply.Done text) = text
+text_told reply.Unchanged = codes ""
 text_told (reply.Refused refusal) = codes ""
 text_told (reply.Failed fault) = codes ""
 

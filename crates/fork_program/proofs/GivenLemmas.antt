@@ -8,7 +8,7 @@ use Rattle.fork_host.specs.Shown.{HostState, Trusted, world_of}
 use Rattle.fork_model.specs.World.{World}
 use Rattle.fork_program.specs.Given.{AreFree, AreGiven, AreUngiven, IsFirstRefused, IsUnadded, with_grant, world_with}
 use Rattle.fork_program.specs.declared.fault.Fault.{Fault}
-use Rattle.fork_program.specs.declared.fault.Fault.TheVariants.{TooLarge, BadObject, BadFrame, Read, Write, Memory, Store, Socket, NoState, Unreadable, Journal, OtherJournal, NotKept, NotSaved, Line, Lost, Damaged, Unsound, OverLimit, There, TooManyTenants, NotThere, BelowUse}
+use Rattle.fork_program.specs.declared.fault.Fault.TheVariants.{TooLarge, BadObject, BadFrame, Read, Write, Memory, Store, Socket, NoState, NotPacked, Unreadable, Journal, OtherJournal, NotKept, NotSaved, Line, Lost, Damaged, Unsound, OverLimit, There, TooManyTenants, NotThere, BelowUse}
 
 -- some of the tenants were added to a world, and the rest is still to come
 pub record Adding (grants rest : List Grant) (old world : World) : Type 0 where
@@ -88,6 +88,7 @@ not_added grants rest grant old world Write so_far why = absurd why
 not_added grants rest grant old world Store so_far why = absurd why
 not_added grants rest grant old world Socket so_far why = absurd why
 not_added grants rest grant old world NoState so_far why = absurd why
+not_added grants rest grant old world NotPacked so_far why = absurd why
 not_added grants rest grant old world Unreadable so_far why = absurd why
 not_added grants rest grant old world Journal so_far why = absurd why
 not_added grants rest grant old world OtherJournal so_far why = absurd why

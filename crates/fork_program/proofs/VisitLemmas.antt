@@ -1,6 +1,6 @@
 -- Connections one after another, with one more behind them.
 use Rattle.std.proofs.Common.{ℕ, ◌+◌, ◌≤◌, List, [], ◌∷◌, ◌++◌, Option, IfOk, IfErr, Result, Ok, Err, length-append, refl, subst, sym, arith}
-use Rattle.fork_frame.specs.declared.ended.Ended.{Ended}
+use Rattle.fork_frame.specs.declared.session_end.Ended.{Ended}
 use Rattle.fork_host.specs.Shown.{HostState}
 use Rattle.fork_wire.specs.Sessions.{IsServed, IsStopped}
 use Rattle.fork_wire.specs.declared.fault.SessionFault.{SessionFault}

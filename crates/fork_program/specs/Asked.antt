@@ -4,7 +4,7 @@ use Rattle.clap.specs.Words.{Text, fault_of, subcommand_of}
 use Rattle.fork_command.specs.Command.{Asks}
 use Rattle.fork_command.specs.Table.{table_app}
 use Rattle.fork_command.specs.declared.command.Command.{Command}
-use Rattle.fork_command.specs.declared.command.Command.TheVariants.{HashObject, Run, Serve, Check, Upgrade, AddTenant, SetLimit, RemoveTenant}
+use Rattle.fork_command.specs.declared.command.Command.TheVariants.{HashObject, Run, Serve, Check, Upgrade, AddTenant, SetLimit, RemoveTenant, Repack}
 
 -- the folder of a command
 abbrev pub folder_in : Command → Option Text
@@ -16,6 +16,7 @@ folder_in (Upgrade dir) = Some dir.now
 folder_in (AddTenant dir grant) = Some dir.now
 folder_in (SetLimit dir grant) = Some dir.now
 folder_in (RemoveTenant dir tenant) = Some dir.now
+folder_in (Repack dir packed) = Some dir.now
 
 -- the folder of a command that starts a host
 abbrev pub started_in : Command → Option Text

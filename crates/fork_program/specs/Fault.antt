@@ -11,7 +11,7 @@ use Rattle.fork_wire.specs.declared.fault.SessionFault.TheVariants as session
 use Rattle.loose_store.specs.declared.files.FileFault.{FileFault}
 use Rattle.loose_store.specs.declared.files.FileFault.TheVariants as file
 use Rattle.fork_program.specs.declared.fault.Fault.{Fault}
-use Rattle.fork_program.specs.declared.fault.Fault.TheVariants.{TooLarge, BadObject, BadFrame, Read, Write, Memory, Store, Socket, NoState, Unreadable, Journal, OtherJournal, NotKept, NotSaved, Line, Lost, Damaged, Unsound, OverLimit, There, TooManyTenants, NotThere, BelowUse}
+use Rattle.fork_program.specs.declared.fault.Fault.TheVariants.{TooLarge, BadObject, BadFrame, Read, Write, Memory, Store, Socket, NoState, NotPacked, Unreadable, Journal, OtherJournal, NotKept, NotSaved, Line, Lost, Damaged, Unsound, OverLimit, There, TooManyTenants, NotThere, BelowUse}
 
 -- the words that report a fault
 abbrev pub said_of : Fault → List ℕ
@@ -24,6 +24,7 @@ said_of Memory = codes "memory"
 said_of Store = codes "store"
 said_of Socket = codes "socket"
 said_of NoState = codes "no state"
+said_of NotPacked = codes "not packed"
 said_of Unreadable = codes "state unreadable"
 said_of Journal = codes "journal unreadable"
 said_of OtherJournal = codes "journal of another state"
@@ -78,6 +79,7 @@ again_fault (again.Host host.Collision) = Journal
 -- the fault that reports that no host could be loaded from a state
 abbrev pub load_fault : LoadFault → Fault
 load_fault (load.Line line) = Line line
+load_fault load.Read = Unreadable
 load_fault (load.Lost name) = Lost name
 load_fault (load.Damaged name) = Damaged name
 load_fault (load.Unsound name) = Unsound name

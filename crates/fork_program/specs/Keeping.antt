@@ -1,12 +1,13 @@
 -- The host that a folder keeps, and what `check` and `upgrade` do (own). Nothing is claimed of what a device holds.
 use Rattle.std.specs.Prelude.{◌≡◌, ℕ, ◌==◌, List, [], ◌++◌, codes, decimal, if◌then◌else◌, Option, ⊤}
 use Rattle.std.specs.Io.KnownBytes.{Appends, Keeps}
+use Rattle.sha2.specs.Sha256.{sha256}
 use Rattle.fork_host.specs.Shape.{SameShape}
 use Rattle.fork_host.specs.Shown.{HostState, Trusted, world_of}
 use Rattle.state_text.specs.Kept.{states_of}
 use Rattle.state_text.specs.Text.{IsStateText2}
 use Rattle.fork_program.specs.declared.fault.Fault.{Fault}
-use Rattle.fork_program.specs.declared.fault.Fault.TheVariants.{Write, Memory, Store, NoState, Unreadable, Journal, OtherJournal, NotSaved, Line, Lost, Damaged, Unsound, OverLimit}
+use Rattle.fork_program.specs.declared.fault.Fault.TheVariants.{Write, Memory, Store, NoState, NotPacked, Unreadable, Journal, OtherJournal, NotSaved, Line, Lost, Damaged, Unsound, OverLimit}
 
 -- nothing was read or written
 pub record IsUntouched (input left before after : Option (List ℕ)) : Type 0 where
@@ -20,6 +21,7 @@ IsUnkept Store = ⊤
 IsUnkept Unreadable = ⊤
 IsUnkept Journal = ⊤
 IsUnkept OtherJournal = ⊤
+IsUnkept NotPacked = ⊤
 IsUnkept (Line line) = ⊤
 IsUnkept (Lost name) = ⊤
 IsUnkept (Damaged name) = ⊤
@@ -47,6 +49,12 @@ pub record IsSaved (old new : HostState) : Type 0 where
 -- what is saved of a host is the text of its states in version 2, without open uploads
 abbrev pub IsTextOf : HostState → List ℕ → Type 0
 IsTextOf host text = IsStateText2 (states_of (world_of host)) text
+
+-- this is the name of the host's state: the SHA-256 of its text (FIPS 180-4, 6.2)
+pub record IsNameOf (host : HostState) (name : List ℕ) : Type 0 where
+  pub text : List ℕ
+  pub saved : IsTextOf host text
+  pub named : name ≡ sha256 text
 
 -- what `check` prints for a sound folder
 abbrev pub sound_line : List ℕ

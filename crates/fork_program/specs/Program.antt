@@ -6,13 +6,13 @@ use Rattle.clap.specs.declared.error.kind.ErrorKind.{ErrorKind}
 use Rattle.fork_command.specs.Command.{Asks, IsRefused, IsShown}
 use Rattle.fork_command.specs.Table.{table_app}
 use Rattle.fork_command.specs.declared.command.Command.{Command}
-use Rattle.fork_command.specs.declared.command.Command.TheVariants.{HashObject, Run, Serve, Check, Upgrade, AddTenant, SetLimit, RemoveTenant}
+use Rattle.fork_command.specs.declared.command.Command.TheVariants.{HashObject, Run, Serve, Check, Upgrade, AddTenant, SetLimit, RemoveTenant, Repack}
 use Rattle.fork_command.specs.declared.error.CommandError.TheVariants as refusal
-use Rattle.fork_frame.specs.declared.ended.Ended.TheVariants.{Clean}
+use Rattle.fork_frame.specs.declared.session_end.Ended.TheVariants.{Clean}
 use Rattle.fork_program.specs.Changing.{IsLimitSet, IsLimitUnset, IsNotAdded, IsNotRemoved, IsTenantAdded, IsTenantRemoved}
 use Rattle.fork_program.specs.Fault.{fault_line}
 use Rattle.fork_program.specs.Hashing.{TellsName, IsUnnamed}
-use Rattle.fork_program.specs.Keeping.{IsNotUpgraded, IsUnchecked, IsUntouched, IsUpgraded, again_line, sound_line}
+use Rattle.fork_program.specs.Keeping.{IsNotUpgraded, IsUnchecked, IsUnopened, IsUntouched, IsUpgraded, again_line, sound_line}
 use Rattle.fork_program.specs.Running.{IsSessionOf, IsUnserved}
 use Rattle.fork_program.specs.Serving.{IsListened, IsUnlistened}
 use Rattle.fork_program.specs.declared.ending.Ending.{Ending}
@@ -54,6 +54,7 @@ IsDone (Upgrade dir) input before after = IsUpgraded before after
 IsDone (AddTenant dir grant) input before after = IsTenantAdded grant × Keeps before after
 IsDone (SetLimit dir grant) input before after = IsLimitSet grant × Keeps before after
 IsDone (RemoveTenant dir tenant) input before after = IsTenantRemoved tenant × Keeps before after
+IsDone (Repack dir packed) input before after = Keeps before after
 
 -- a check found the folder sound
 abbrev pub FindsSound : Command → Option (List ℕ) → Option (List ℕ) → Option (List ℕ) → Option (List ℕ) → Type 0
@@ -70,6 +71,7 @@ IsUndone (Upgrade dir) input left before after fault = IsNotUpgraded before afte
 IsUndone (AddTenant dir grant) input left before after fault = IsNotAdded grant fault × IsUntouched input left before after
 IsUndone (SetLimit dir grant) input left before after fault = IsLimitUnset grant fault × IsUntouched input left before after
 IsUndone (RemoveTenant dir tenant) input left before after fault = IsNotRemoved tenant fault × IsUntouched input left before after
+IsUndone (Repack dir packed) input left before after fault = IsUnopened fault × IsUntouched input left before after
 
 -- how a command ended: it was done, or a fault occurred
 abbrev pub ending_of : Result (Unit {0}) Fault → Ending

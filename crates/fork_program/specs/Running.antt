@@ -2,8 +2,8 @@
 use Rattle.std.specs.Prelude.{◌≡◌, ℕ, true, false, List, Option, is_some}
 use Rattle.std.specs.FinMap.{empty}
 use Rattle.fork_command.specs.declared.hosting.Hosting.{Hosting}
-use Rattle.fork_frame.specs.declared.ended.Ended.{Ended}
-use Rattle.fork_frame.specs.declared.ended.Ended.TheVariants as ended
+use Rattle.fork_frame.specs.declared.session_end.Ended.{Ended}
+use Rattle.fork_frame.specs.declared.session_end.Ended.TheVariants as ended
 use Rattle.fork_host.specs.Shown.{HostState, Trusted, world_of}
 use Rattle.fork_wire.specs.Sessions.{IsServed, IsStopped}
 use Rattle.fork_wire.specs.declared.fault.SessionFault.TheVariants as session

@@ -22,6 +22,7 @@ fn folder_of<'a>(command: Command<'a>) -> Option<&'a str>
         Command::AddTenant { dir, grant: _ } => Some(dir),
         Command::SetLimit { dir, grant: _ } => Some(dir),
         Command::RemoveTenant { dir, tenant: _ } => Some(dir),
+        Command::Repack { dir, packed: _ } => Some(dir),
     }
 }
 

@@ -3,9 +3,9 @@ ghost use Rattle.fork_program.specs.Serving.{IsConnection, IsLost, IsUnbound, Is
 
 use crate::fault::Fault;
 use crate::keep::Keep;
-use crate::listening::of_socket;
+use crate::open_connections::Table;
 use crate::peer::MOST_WAITING;
-use crate::table::Table;
+use crate::socket::of_socket;
 use fork_host::Host;
 use fork_wire::{Journal, NoJournal, serve_round};
 use loose_store::LooseFiles;

@@ -3,15 +3,26 @@ ghost use Rattle.fork_program.specs.Causes.{AddsCause, IsCauseTold, IsOfFolder, 
 
 use crate::asked::folder_asked;
 use crate::trial::{Trial, words_for};
+use packed_store::{Layout, layout_of};
 use std::alloc::{AllocError, Global};
 use std::fs::{File, Files};
 use std::io;
 
-// What a start does with its folder before it reads the state.
+// What a start does with a packed folder before it reads the state.
+const OPENING_PACKED: [(Trial, &'static str); 6] = [
+    (Trial::Make, ""),
+    (Trial::Lock, "/lock"),
+    (Trial::Make, "/segments"),
+    (Trial::List, "/segments"),
+    (Trial::Look, "/part"),
+    (Trial::Look, "/journal/part"),
+];
+
+// The same with another folder.
 const OPENING: [(Trial, &'static str); 8] = [
     (Trial::Make, ""),
-    (Trial::Make, "/objects"),
     (Trial::Lock, "/lock"),
+    (Trial::Make, "/objects"),
     (Trial::List, "/objects"),
     (Trial::List, "/swept"),
     (Trial::Look, "/part"),
@@ -73,12 +84,25 @@ fn tell_first<H: Files<File = File> + AllocGlobal>(
     Ok(())
 }
 
+// Whether a folder is packed, or is to be by the words, if it has no layout yet.
+fn is_packed<H: Files>(rt: &H, alloc: Global, words: &[&str], dir: &str) -> bool {
+    match layout_of(rt, alloc, dir) {
+        Ok(Some(layout)) => layout == Layout::Packed,
+        Ok(None) => words.contains(&"--packed"),
+        Err(_) => false,
+    }
+}
+
 // The trials that may find the cause of the fault in `told`.
-fn trials_for(told: &[u8]) -> Option<&'static [(Trial, &'static str)]>
+fn trials_for(told: &[u8], is_packed: bool) -> Option<&'static [(Trial, &'static str)]>
     ensures { IfSome result (λ _. IsOfFolder told.now) }
 {
     if told == b"forkhost: store\n".as_slice() {
-        return Some(OPENING.as_slice());
+        return Some(if is_packed {
+            OPENING_PACKED.as_slice()
+        } else {
+            OPENING.as_slice()
+        });
     }
     if told == b"forkhost: state unreadable\n".as_slice() {
         return Some(LOADING.as_slice());
@@ -96,11 +120,12 @@ pub fn tell_cause<H: Files<File = File> + AllocGlobal>(
 ) -> Result<(), AllocError>
     ensures { IsCauseTold (map (λ word. word.now) words.entry.now) told.old.items told.new.items }
 {
-    let Some(trials) = trials_for(told.as_slice()) else {
+    let Some(dir) = folder_asked(alloc, words) else {
         return Ok(());
     };
-    match folder_asked(alloc, words) {
-        Some(dir) => tell_first(rt, alloc, dir, trials, told),
+    let is_packed = is_packed(rt, alloc, words, dir);
+    match trials_for(told.as_slice(), is_packed) {
+        Some(trials) => tell_first(rt, alloc, dir, trials, told),
         None => Ok(()),
     }
 }

@@ -3,7 +3,7 @@ ghost use Rattle.std.specs.Io.KnownBytes.{Appends};
 ghost use Rattle.fork_program.specs.Keeping.{IsUnchecked, IsUnopened, sound_line};
 
 use crate::fault::Fault;
-use crate::keeping::standing_host;
+use crate::restoring::standing_host;
 use crate::send::send;
 use std::alloc::Global;
 use std::fs::{File, Files};
@@ -19,7 +19,7 @@ fn replayable<'x, H: Files<File = File> + AllocGlobal + RandomSource>(
     ensures { IfErr result IsUnopened }
 {
     match standing_host(rt, alloc, dir) {
-        Ok((_host, count)) => Ok(count),
+        Ok((_host, _name, count)) => Ok(count),
         Err(fault) => Err(fault),
     }
 }

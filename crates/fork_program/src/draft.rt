@@ -1,26 +1,74 @@
-ghost use Rattle.std.specs.Prelude.{◌≡◌, IfErr, IfOk};
-ghost use Rattle.fork_program.specs.Keeping.{IsSaved, IsTextOf};
+ghost use Rattle.std.specs.Prelude.{◌≡◌, IfErr, IfOk, IfSome};
+ghost use Rattle.sha2.specs.Sha256.{sha256};
+ghost use Rattle.state_text.specs.Text.{state_text};
+ghost use Rattle.state_text.specs.declared.version.Version.TheVariants.{Two};
+ghost use Rattle.fork_program.specs.Keeping.{IsNameOf, IsSaved};
 
 use crate::fault::Fault;
 use crate::roomy::Roomy;
-use crate::standing::name_of;
 use chained_log::LogWriter;
 use fork_host::Host;
+use fork_state::save;
 use fork_wire::write_uploads;
 use git_name::Name;
-use loose_store::{
-    LooseFiles, Reserve, begin_journal, clear_journals, journal_name, settle_journal, write_state,
-};
+use loose_store::{LooseFiles, Reserve, begin_journal, begin_state, clear_journals, drop_state};
+use state_text::{Spelled, States, write};
 use std::alloc::Global;
-use std::fs::{File, Files};
+use std::fs::{File, Files, OpenFile};
+use std::io;
+use std::io::ErrorKind;
 
-// A state to be saved, its name, and its journal, which may begin with the open uploads.
+// A state to be saved, whose text is in the part of the folder's state: its name and length. And its journal, which may
+// begin with the open uploads.
 #[derive(Drop)]
 pub(crate) struct Draft {
-    pub(crate) state: Vec<u8>,
-    name: Name,
-    journal: LogWriter<Roomy<File>>,
-    uploads: u64,
+    pub(crate) name: Name,
+    pub(crate) len: u64,
+    pub(crate) journal: LogWriter<Roomy<File>>,
+    pub(crate) uploads: u64,
+}
+
+// Writes the text of these states into the part of the folder's state, and syncs it.
+fn write_part<H: Files<File = File>>(
+    rt: &H,
+    alloc: Global,
+    dir: &str,
+    states: &States,
+) -> io::Result<Spelled>
+    ensures { IfOk result (λ spelled. spelled.name ≡ sha256 (state_text Two states.now)) }
+{
+    let mut file = begin_state(rt, alloc, dir)?;
+    let spelled = write(alloc, states, &mut file)?;
+    file.sync_all()?;
+    Ok(spelled)
+}
+
+// The same, and once more from the beginning if the reserve made room for it. Returns `None` if there is no memory. After a
+// `None` or an `Err` there is no part.
+fn written<H: Files<File = File>>(
+    rt: &H,
+    alloc: Global,
+    dir: &str,
+    states: &States,
+    reserve: &Reserve,
+) -> Result<Option<Spelled>, Fault>
+    ensures cause { IfErr result (λ fault. fault ≡ Fault.NotSaved) }
+    ensures name { IfOk result (λ found. IfSome found (λ spelled. spelled.name ≡ sha256 (state_text Two states.now))) }
+{
+    let answer = match write_part(rt, alloc, dir, states) {
+        Err(error) if reserve.gives_back(&error) => write_part(rt, alloc, dir, states),
+        answer => answer,
+    };
+    match answer {
+        Ok(spelled) => Ok(Some(spelled)),
+        Err(error) => {
+            drop_state(rt, alloc, dir);
+            if error.kind() == ErrorKind::OutOfMemory {
+                return Ok(None);
+            }
+            Err(Fault::NotSaved)
+        }
+    }
 }
 
 // Begins an empty journal for the state `name`, while `standing` is the state in the folder. Whatever is beside
@@ -50,7 +98,28 @@ fn unnamed<H: Files<File = File> + AllocGlobal>(
     }
 }
 
-// Drafts the host's state, with an empty journal. The folder still has its old state and its journal.
+// The same, but the journal begins with the host's open uploads. Returns how many bytes these have, too.
+fn with_uploads<H: Files<File = File> + AllocGlobal, S: LooseFiles>(
+    rt: &H,
+    alloc: Global,
+    dir: &str,
+    standing: Name,
+    name: Name,
+    host: &mut Host<S>,
+    reserve: &Reserve,
+) -> Result<(LogWriter<Roomy<File>>, u64), Fault>
+    ensures cause { IfErr result (λ fault. fault ≡ Fault.NotSaved) }
+    ensures saved { IsSaved host.old host.new }
+{
+    let mut journal = unnamed(rt, alloc, dir, standing, name, reserve)?;
+    let Ok(uploads) = write_uploads(host, alloc, &mut journal) else {
+        return Err(Fault::NotSaved);
+    };
+    Ok((journal, uploads))
+}
+
+// Drafts the host's state, with an empty journal. The folder still has its old state and its journal. Returns `None` if
+// there is no memory, or if the journal cannot be begun. After a `None` or an `Err` the folder has no part of the new state.
 pub(crate) fn closed<H: Files<File = File> + AllocGlobal, S: LooseFiles>(
     rt: &H,
     alloc: Global,
@@ -58,24 +127,32 @@ pub(crate) fn closed<H: Files<File = File> + AllocGlobal, S: LooseFiles>(
     standing: Name,
     host: &Host<S>,
     reserve: &Reserve,
-) -> Result<Draft, Fault>
+) -> Result<Option<Draft>, Fault>
     ensures cause { IfErr result (λ fault. fault ≡ Fault.NotSaved) }
-    ensures text { IfOk result (λ draft. IsTextOf host.now draft.state.items) }
+    ensures name { IfOk result (λ found. IfSome found (λ draft. IsNameOf host.now draft.name)) }
 {
-    let Ok(state) = fork_state::save(alloc, host) else {
-        return Err(Fault::NotSaved);
+    let Ok(states) = save(alloc, host) else {
+        return Ok(None);
     };
-    let name = journal_name(state.as_slice());
-    let journal = unnamed(rt, alloc, dir, standing, name, reserve)?;
-    Ok(Draft {
-        state,
-        name,
-        journal,
-        uploads: 0,
-    })
+    let Some(spelled) = written(rt, alloc, dir, &states, reserve)? else {
+        return Ok(None);
+    };
+    let Spelled { name, len } = spelled;
+    match unnamed(rt, alloc, dir, standing, name, reserve) {
+        Ok(journal) => Ok(Some(Draft {
+            name,
+            len,
+            journal,
+            uploads: 0,
+        })),
+        Err(_) => {
+            drop_state(rt, alloc, dir);
+            Ok(None)
+        }
+    }
 }
 
-// The same, but the journal begins with the open uploads.
+// The same, but the journal begins with the open uploads. It is `None` too if one of these cannot be read or written.
 pub(crate) fn drafted<H: Files<File = File> + AllocGlobal, S: LooseFiles>(
     rt: &H,
     alloc: Global,
@@ -83,91 +160,45 @@ pub(crate) fn drafted<H: Files<File = File> + AllocGlobal, S: LooseFiles>(
     standing: Name,
     host: &mut Host<S>,
     reserve: &Reserve,
-) -> Result<Draft, Fault>
+) -> Result<Option<Draft>, Fault>
     ensures cause { IfErr result (λ fault. fault ≡ Fault.NotSaved) }
     ensures saved { IsSaved host.old host.new }
-    ensures text { IfOk result (λ draft. IsTextOf host.old draft.state.items) }
+    ensures name { IfOk result (λ found. IfSome found (λ draft. IsNameOf host.old draft.name)) }
 {
-    let Ok(text) = fork_state::save(alloc, host) else {
-        return Err(Fault::NotSaved);
+    let Ok(states) = save(alloc, host) else {
+        return Ok(None);
     };
-    drafted_as(rt, alloc, dir, standing, host, text, reserve)
+    drafted_as(rt, alloc, dir, standing, host, &states, reserve)
 }
 
-// Drafts a state of this text, with a journal that begins with the host's open uploads.
+// Drafts these states, with a journal that begins with the host's open uploads.
 pub(crate) fn drafted_as<H: Files<File = File> + AllocGlobal, S: LooseFiles>(
     rt: &H,
     alloc: Global,
     dir: &str,
     standing: Name,
     host: &mut Host<S>,
-    text: Vec<u8>,
+    states: &States,
     reserve: &Reserve,
-) -> Result<Draft, Fault>
+) -> Result<Option<Draft>, Fault>
     ensures cause { IfErr result (λ fault. fault ≡ Fault.NotSaved) }
     ensures saved { IsSaved host.old host.new }
-    ensures text { IfOk result (λ draft. draft.state.items ≡ text.items) }
+    ensures name { IfOk result (λ found. IfSome found (λ draft. draft.name ≡ sha256 (state_text Two states.now))) }
 {
-    let name = name_of(rt, alloc, dir, standing, text.as_slice());
-    let mut journal = unnamed(rt, alloc, dir, standing, name, reserve)?;
-    let Ok(uploads) = write_uploads(host, alloc, &mut journal) else {
-        return Err(Fault::NotSaved);
+    let Some(spelled) = written(rt, alloc, dir, states, reserve)? else {
+        return Ok(None);
     };
-    Ok(Draft {
-        state: text,
-        name,
-        journal,
-        uploads,
-    })
-}
-
-// A drafted state that is in place.
-#[derive(Drop)]
-pub(crate) struct Settled {
-    pub(crate) journal: LogWriter<Roomy<File>>,
-    pub(crate) name: Name,
-    pub(crate) saved: u64,
-}
-
-// Puts a host's drafted state in its place. The object files are synced first. Then the journal gets the name
-// of the new state. Then the state is written, unless the folder already has it. So at each moment the state in
-// the folder has its journal and its objects. A single rename, of the state or of the journal, replaces the old
-// ones.
-pub(crate) fn put<H: Files<File = File> + AllocGlobal, S: LooseFiles>(
-    rt: &H,
-    alloc: Global,
-    dir: &str,
-    host: &mut Host<S>,
-    standing: Option<Name>,
-    draft: Draft,
-    reserve: &Reserve,
-) -> Result<Settled, Fault>
-    ensures cause { IfErr result (λ fault. fault ≡ Fault.NotSaved) }
-    ensures host { host.new ≡ host.old }
-{
-    let Draft {
-        state,
-        name,
-        journal,
-        uploads,
-    } = draft;
-    let Ok(()) = host.sync(alloc) else {
-        return Err(Fault::NotSaved);
-    };
-    let Ok(()) = settle_journal(rt, alloc, dir, name, journal.writer().writer()) else {
-        return Err(Fault::NotSaved);
-    };
-    if standing != Some(name) {
-        let Ok(()) = write_state(rt, alloc, dir, state.as_slice(), reserve) else {
-            return Err(Fault::NotSaved);
-        };
+    let Spelled { name, len } = spelled;
+    match with_uploads(rt, alloc, dir, standing, name, host, reserve) {
+        Ok((journal, uploads)) => Ok(Some(Draft {
+            name,
+            len,
+            journal,
+            uploads,
+        })),
+        Err(_) => {
+            drop_state(rt, alloc, dir);
+            Ok(None)
+        }
     }
-    // What is left of older journals and of swept objects does no harm. The next save removes it.
-    let _cleared = clear_journals(&rt, alloc, dir, name);
-    let _forgotten = host.forget_removed(alloc);
-    Ok(Settled {
-        journal,
-        name,
-        saved: uploads.saturating_add(state.len() as u64),
-    })
 }

@@ -2,14 +2,15 @@ ghost use Rattle.std.specs.Prelude.{◌≡◌, ◌⊎◌, ℕ, IfErr, IfOk, List
 ghost use Rattle.std.specs.Io.KnownBytes.{Appends, Keeps};
 ghost use Rattle.fork_program.specs.Program.{Ends, IsCarriedOut, IsEndedAndTold, IsEndedUntold, ending_of};
 
-use crate::changing::{add_tenant, remove_tenant, set_limit};
 use crate::check::check;
 use crate::ending::Ending;
 use crate::fault::Fault;
 use crate::hash_object::hash_object;
+use crate::repack::repack;
 use crate::run::run;
 use crate::send::send;
 use crate::serve::serve;
+use crate::tenants::{add_tenant, remove_tenant, set_limit};
 use crate::upgrade::upgrade;
 use clap::Error;
 use fork_command::{Command, CommandError, command_of};
@@ -63,6 +64,7 @@ fn carried_out<
         Command::AddTenant { dir, grant } => done(add_tenant(rt, alloc, dir, grant)),
         Command::SetLimit { dir, grant } => done(set_limit(rt, alloc, dir, grant)),
         Command::RemoveTenant { dir, tenant } => done(remove_tenant(rt, alloc, dir, tenant)),
+        Command::Repack { dir, packed } => done(repack(rt, alloc, dir, packed)),
     }
 }
 

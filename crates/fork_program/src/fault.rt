@@ -30,6 +30,8 @@ pub enum Fault {
     Socket,
     /// The folder keeps no state.
     NoState,
+    /// The folder keeps a file for each object, and was to be packed.
+    NotPacked,
     /// The folder's state could not be read.
     Unreadable,
     /// The folder's journal could not be read, or its requests could not be repeated.
@@ -85,6 +87,7 @@ impl Fault {
             Fault::Store => writer.write_all(b"store"),
             Fault::Socket => writer.write_all(b"socket"),
             Fault::NoState => writer.write_all(b"no state"),
+            Fault::NotPacked => writer.write_all(b"not packed"),
             Fault::Unreadable => writer.write_all(b"state unreadable"),
             Fault::Journal => writer.write_all(b"journal unreadable"),
             Fault::OtherJournal => writer.write_all(b"journal of another state"),

@@ -2,13 +2,13 @@ ghost use Rattle.std.specs.Prelude.{◌≡◌, IfErr, IfOk, is_some, true};
 ghost use Rattle.fork_program.specs.Running.{IsHostOf, IsUnhosted};
 
 use crate::fault::Fault;
-use crate::keeping::kept_host;
-use crate::tenants::add_tenants;
-use devices::Real;
+use crate::first_tenants::add_tenants;
+use crate::objects::Objects;
+use crate::restoring::kept_host;
 use fork_command::Hosting;
 use fork_host::Host;
 use git_name::{Hashing, Name};
-use loose_store::{Folder, Gate, Memory};
+use loose_store::{Gate, Memory};
 use std::alloc::Global;
 use std::fs::{File, Files};
 use std::random::RandomSource;
@@ -41,12 +41,12 @@ pub(crate) fn host_in_folder<'a, H: Files<File = File> + AllocGlobal + RandomSou
     alloc: Global,
     dir: &str,
     hosting: Hosting<'_>,
-) -> Result<(Host<Folder<Real<&'a H>>>, Name, Gate), Fault>
+) -> Result<(Host<Objects<'a, H>>, Name, Gate), Fault>
     requires { is_some hosting.dir ≡ true }
     ensures ok { IfOk result (λ found. IsHostOf hosting.entry found.0) }
     ensures err { IfErr result (IsUnhosted hosting.entry) }
 {
-    let (mut host, standing, gate) = kept_host(rt, alloc, dir)?;
+    let (mut host, standing, gate) = kept_host(rt, alloc, dir, hosting.packed)?;
     match add_tenants(&mut host, alloc, hosting.tenants) {
         Ok(()) => Ok((host, standing, gate)),
         Err(fault) => Err(fault),

@@ -1,9 +1,10 @@
 ghost use Rattle.std.specs.Prelude.{◌≡◌, IfErr, IfOk, OnOk};
 ghost use Rattle.fork_program.specs.Keeping.{IsSaved};
 
-use crate::draft::{Draft, Settled, closed, drafted, put};
+use crate::draft::{Draft, closed, drafted};
 use crate::fault::Fault;
 use crate::roomy::Roomy;
+use crate::saving::{Settled, put};
 use chained_log::LogWriter;
 use fork_host::Host;
 use fork_wire::Written;
@@ -74,7 +75,8 @@ impl<'a, H: Files<File = File> + AllocGlobal> Keep<'a, H> {
         ensures saved { IsSaved host.old host.new }
     {
         match drafted(rt, alloc, dir, standing, host, &reserve) {
-            Ok(draft) => Keep::over(rt, alloc, dir, host, None, draft, syncs, reserve),
+            Ok(Some(draft)) => Keep::over(rt, alloc, dir, host, None, draft, syncs, reserve),
+            Ok(None) => Err(Fault::NotSaved),
             Err(fault) => Err(fault),
         }
     }
@@ -132,7 +134,10 @@ impl<'a, H: Files<File = File> + AllocGlobal> Keep<'a, H> {
             let _forgotten = host.forget_removed(alloc);
             return Ok(());
         }
-        let draft = closed(self.rt, alloc, self.dir, self.name, host, &self.reserve)?;
+        let drafted = closed(self.rt, alloc, self.dir, self.name, host, &self.reserve)?;
+        let Some(draft) = drafted else {
+            return Err(Fault::NotSaved);
+        };
         match put(
             self.rt,
             alloc,
@@ -155,8 +160,8 @@ impl<'a, H: Files<File = File> + AllocGlobal> Keep<'a, H> {
     }
 
     /// Saves the host's state if the journal is long, or if anything was swept. The old state stays and its
-    /// journal goes on if the new one cannot be drafted because an upload's object cannot be read, or if there
-    /// are no descriptors to sync object files. After an `Err` nothing more may be kept.
+    /// journal goes on if an upload's object cannot be read, if there is no memory, or if there are no descriptors
+    /// to sync object files or to begin a journal. After an `Err` nothing more may be kept.
     pub fn settle<S: LooseFiles>(&mut self, alloc: Global, host: &mut Host<S>) -> Result<(), Fault>
         ensures cause { IfErr result (λ fault. fault ≡ Fault.NotSaved) }
         ensures syncs { (self.old.journal.syncs ≡ self.old.syncs) → (self.new.journal.syncs ≡ self.old.syncs) × (self.new.syncs ≡ self.old.syncs) }
@@ -174,11 +179,13 @@ impl<'a, H: Files<File = File> + AllocGlobal> Keep<'a, H> {
             Err(FileFault::Memory) => return Ok(()),
             Err(FileFault::Device) => return Err(Fault::NotSaved),
         }
-        let Ok(draft) = drafted(self.rt, alloc, self.dir, self.name, host, &self.reserve) else {
-            return Ok(());
-        };
         let Ok(reserve) = self.reserve.share() else {
             return Ok(());
+        };
+        let draft = match drafted(self.rt, alloc, self.dir, self.name, host, &self.reserve) {
+            Ok(Some(draft)) => draft,
+            Ok(None) => return Ok(()),
+            Err(fault) => return Err(fault),
         };
         match Keep::over(
             self.rt,

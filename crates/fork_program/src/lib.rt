@@ -1,6 +1,6 @@
 //! What `forkhost` does for the words that it is given, over any reader and writers: it names objects,
-//! serves a session or connections to a socket, and checks, upgrades or changes the folder that keeps a
-//! host.
+//! serves a session or connections to a socket, and checks, upgrades, repacks or changes the
+//! folder that keeps a host.
 //! The contract of `program` says how each command ends, and what it has written by then.
 #![tactic(auto)]
 
@@ -8,41 +8,42 @@ mod accepting;
 mod asked;
 mod at_once;
 mod cause;
-mod changing;
 mod check;
-mod connections;
 mod content;
+mod deadlines;
+mod deadlines_at_once;
 mod draft;
 mod ending;
-mod ends;
 mod entry;
 mod fault;
+mod first_tenants;
+mod folder_rights;
 mod hash_object;
 mod hosts;
 mod keep;
-mod keeping;
 mod laws;
-mod listening;
-mod patience;
+mod objects;
+mod one_after_another;
+mod open_connections;
 mod peer;
+mod repack;
 mod replaying;
 mod reserving;
-mod rights;
+mod restoring;
 mod roomy;
 mod run;
 mod saving;
 mod send;
 mod serve;
+mod socket;
 mod stall;
-mod standing;
-mod table;
+mod stream_ends;
 mod telling;
 mod tenants;
 mod trial;
 mod upgrade;
-mod watch;
 
 pub use crate::cause::tell_cause;
 pub use crate::entry::{Untold, program};
+pub use crate::folder_rights::tell_rights;
 pub use crate::laws::a_serving_is_one_run;
-pub use crate::rights::tell_rights;

@@ -1,4 +1,4 @@
-use crate::ends::{Incoming, Outgoing};
+use crate::stream_ends::{Incoming, Outgoing};
 use fork_connection::Party;
 use std::time::Instant;
 

@@ -1,6 +1,6 @@
 ghost use Rattle.std.specs.Prelude.{◌≡◌, IfErr, OnOk, is_some, true};
 ghost use Rattle.fork_command.specs.declared.hosting.Hosting.{Hosting};
-ghost use Rattle.fork_frame.specs.declared.ended.Ended.TheVariants.{Clean};
+ghost use Rattle.fork_frame.specs.declared.session_end.Ended.TheVariants.{Clean};
 ghost use Rattle.fork_wire.specs.Sessions.{IsServed};
 ghost use Rattle.fork_program.specs.Running.{EndsEarly, IsKeptHostOf, IsSessionOf, IsUnserved};
 

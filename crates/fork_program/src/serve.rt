@@ -4,12 +4,12 @@ ghost use Rattle.fork_program.specs.Running.{IsHostOf, IsKeptHostOf};
 ghost use Rattle.fork_program.specs.Serving.{AreServed, AreSomeServed, IsListened, IsLost, IsUnbound, IsUnlistened};
 
 use crate::at_once::{serve_at_once, serve_kept_at_once};
-use crate::connections::{serve_connections, serve_kept_connections};
 use crate::fault::Fault;
 use crate::hosts::{host_in_folder, host_in_memory};
 use crate::keep::Keep;
-use crate::listening::{Listening, listen, show};
+use crate::one_after_another::{serve_connections, serve_kept_connections};
 use crate::reserving::reserved;
+use crate::socket::{Listening, listen, show};
 use fork_command::Hosting;
 use fork_host::Host;
 use git_name::Name;

@@ -1,6 +1,6 @@
 ghost use Rattle.std.specs.Prelude.{◌≡◌, false};
 
-use crate::patience::{end_of, left_until};
+use crate::deadlines::{end_of, left_until};
 use std::time::{Duration, Instant};
 
 /// Since when a peer has taken nothing of what waits for it.

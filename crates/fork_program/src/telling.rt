@@ -76,6 +76,7 @@ pub fn of_load(fault: LoadFault) -> Fault
 {
     match fault {
         LoadFault::Line(line) => Fault::Line(line),
+        LoadFault::Read => Fault::Unreadable,
         LoadFault::Lost(name) => Fault::Lost(name),
         LoadFault::Damaged(name) => Fault::Damaged(name),
         LoadFault::Unsound(name) => Fault::Unsound(name),

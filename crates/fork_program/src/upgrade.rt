@@ -2,7 +2,7 @@ ghost use Rattle.std.specs.Prelude.{IfErr, OnOk};
 ghost use Rattle.fork_program.specs.Keeping.{IsNotUpgraded, IsRenewed, IsUnrenewed, IsUpgraded};
 
 use crate::fault::Fault;
-use crate::keeping::standing_host;
+use crate::restoring::standing_host;
 use crate::saving::save;
 use crate::send::send;
 use std::alloc::Global;
@@ -19,8 +19,8 @@ fn renew<'x, H: Files<File = File> + AllocGlobal + RandomSource>(
     ensures ok { OnOk result IsRenewed }
     ensures err { IfErr result IsUnrenewed }
 {
-    let (mut host, _count) = standing_host(rt, alloc, dir)?;
-    let saved = save(rt, alloc, dir, &mut host);
+    let (mut host, standing, _count) = standing_host(rt, alloc, dir)?;
+    let saved = save(rt, alloc, dir, standing, &mut host);
     drop(host);
     match saved {
         Ok(()) => Ok(()),

@@ -8,6 +8,7 @@ ghost use Rattle.fork_push.specs.Push.{judged, within_limit};
 ghost use Rattle.fork_push.specs.Verdict.{IfAccepted, IsAcceptable, TellsJudged, fault_of_verdict};
 
 use crate::both_kinds::BothKinds;
+use crate::limit::accept_within;
 use crate::refusal::PushRefusal;
 use crate::sent::judge_sent;
 use crate::sides::Sides;
@@ -83,8 +84,5 @@ fn judge_transaction<S: Sides>(
         }
         Err(ApplyError::Memory) => return Verdict::Failed(SourceFault::Memory),
     };
-    if !sides.is_within(limit) {
-        return Verdict::Refused(PushRefusal::OverQuota);
-    }
-    Verdict::Accepted(new)
+    accept_within(sides, limit, new)
 }

@@ -4,6 +4,7 @@
 
 mod both_kinds;
 mod judging;
+mod limit;
 mod linking;
 mod refusal;
 mod sent;

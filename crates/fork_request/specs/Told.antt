@@ -6,7 +6,7 @@ use Rattle.fork_request.specs.declared.refusal.Refusal.TheVariants.{BadRequest, 
 use Rattle.fork_request.specs.declared.host_fault.HostFault.{HostFault}
 use Rattle.fork_request.specs.declared.host_fault.HostFault.TheVariants.{Memory, Store, Damaged, Collision}
 use Rattle.fork_request.specs.declared.reply.Reply.{Reply}
-use Rattle.fork_request.specs.declared.reply.Reply.TheVariants.{Done, Refused, Failed}
+use Rattle.fork_request.specs.declared.reply.Reply.TheVariants.{Done, Unchanged, Refused, Failed}
 
 -- a refusal's word, and what it is about after a SP
 abbrev pub refusal_text : Refusal → List ℕ
@@ -47,17 +47,20 @@ fault_word Collision = codes "collision"
 -- the bytes of a reply
 abbrev pub bytes_of : Reply → List ℕ
 bytes_of (Done text) = codes "ok\n" ++ text
+bytes_of Unchanged = codes "ok\n"
 bytes_of (Refused refusal) = codes "no " ++ refusal_text refusal ++ codes "\n"
 bytes_of (Failed fault) = codes "host " ++ fault_word fault ++ codes "\n"
 
 -- whether a reply is a host fault
 abbrev pub is_host_fault : Reply → Bool
 is_host_fault (Done text) = false
+is_host_fault Unchanged = false
 is_host_fault (Refused refusal) = false
 is_host_fault (Failed fault) = true
 
--- whether a reply is an answer with data
+-- whether a reply is `ok`
 abbrev pub is_done : Reply → Bool
 is_done (Done text) = true
+is_done Unchanged = true
 is_done (Refused refusal) = false
 is_done (Failed fault) = false

@@ -8,12 +8,12 @@ mod harm;
 mod host_fault;
 mod host_request;
 mod laws;
-mod limit;
 mod name;
 mod plain_word;
 mod refusal;
 mod reply;
 mod request;
+mod tenant_limit;
 mod words;
 
 pub use crate::byte_string::ByteString;
@@ -21,10 +21,10 @@ pub use crate::harm::Harm;
 pub use crate::host_fault::HostFault;
 pub use crate::host_request::{HostRequest, MAX_SWEEP};
 pub use crate::laws::{a_host_request_has_one_spelling, a_request_has_one_spelling};
-pub use crate::limit::MAX_LIMIT;
 pub use crate::name::{
     MAX_REPOSITORY_NAME, MAX_TENANT_NAME, PlainName, RepositoryName, TenantName,
 };
 pub use crate::refusal::Refusal;
 pub use crate::reply::Reply;
 pub use crate::request::{MAX_PAYLOAD, Request};
+pub use crate::tenant_limit::MAX_LIMIT;

@@ -11,6 +11,8 @@ use std::alloc::{AllocError, Global};
 pub enum Reply {
     /// `ok`, LF and the data.
     Done(ByteString),
+    /// `ok` and LF, and the view is as it was.
+    Unchanged,
     /// `no`, the refusal and LF.
     Refused(Refusal),
     /// `host`, the fault's word and LF.
@@ -30,6 +32,7 @@ impl Reply {
                 text.extend_from_slice(b"ok\n")?;
                 text.extend_from_slice(told.as_bytes())?;
             }
+            Reply::Unchanged => text.extend_from_slice(b"ok\n")?,
             Reply::Refused(refusal) => {
                 text.extend_from_slice(b"no ")?;
                 refusal.write(&mut text)?;

@@ -1,5 +1,7 @@
 -- Why a text is not loaded, and what is loaded from a text that was saved.
-use Rattle.std.specs.Prelude.{◌≡◌, ℕ, List, ⊤}
+use Rattle.std.specs.Prelude.{◌≡◌, ℕ, List, Option, ⊤}
+use Rattle.std.specs.Io.KnownBytes.{Consumes, IsAtEnd}
+use Rattle.sha2.specs.Sha256.{sha256}
 use Rattle.loose_store.specs.Files.{Files}
 use Rattle.fork_model.specs.Sound.{IsSoundWorld}
 use Rattle.fork_model.specs.World.{World}
@@ -12,7 +14,7 @@ use Rattle.fork_host.specs.Uploads.{without_uploads}
 use Rattle.fork_host.specs.declared.restore_error.RestoreError.{RestoreError}
 use Rattle.fork_host.specs.declared.restore_error.RestoreError.TheVariants as restore
 use Rattle.fork_state.specs.declared.fault.LoadFault.{LoadFault}
-use Rattle.fork_state.specs.declared.fault.LoadFault.TheVariants.{Line, Lost, Damaged, Unsound, OverLimit, Store, Memory}
+use Rattle.fork_state.specs.declared.fault.LoadFault.TheVariants.{Line, Read, Lost, Damaged, Unsound, OverLimit, Store, Memory}
 
 -- the load fault that reports a restore error
 abbrev pub restore_fault : RestoreError → LoadFault
@@ -27,10 +29,19 @@ restore_fault restore.Memory = Memory
 abbrev pub IsText : List ℕ → Type 0
 IsText text = (states : States) × IsStateText states text
 
--- what a fault says about the text alone, over any store: its first wrong line, or that it is a state text; if memory ran out,
--- nothing
+-- all that the reader had is a state text, and this is its SHA-256 (FIPS 180-4, 6.2)
+pub record IsTextFrom (before after : Option (List ℕ)) (name : List ℕ) : Type 0 where
+  pub text : List ℕ
+  pub consumed : Consumes before after text
+  pub ends : IsAtEnd after
+  pub is_text : IsText text
+  pub named : name ≡ sha256 text
+
+-- what a fault says about the text alone, over any store: its first wrong line, or that it is a state text; if the
+-- reader failed or memory ran out, nothing
 abbrev pub IsTextFault : List ℕ → LoadFault → Type 0
 IsTextFault text (Line number) = IsWrongLine text number
+IsTextFault text Read = ⊤
 IsTextFault text Memory = ⊤
 IsTextFault text fault = IsText text
 
@@ -48,6 +59,7 @@ IsLoadFault files text (Damaged name) = IsRefusedText files text (restore.Damage
 IsLoadFault files text (Unsound name) = IsRefusedText files text (restore.Unsound name)
 IsLoadFault files text (OverLimit tenant) = IsRefusedText files text (restore.OverLimit tenant)
 IsLoadFault files text Store = IsRefusedText files text restore.Store
+IsLoadFault files text Read = ⊤
 IsLoadFault files text Memory = ⊤
 
 -- the text is a state text, and the world is the one that it describes
@@ -55,6 +67,14 @@ pub record IsLoaded (files : Files) (text : List ℕ) (world : World) : Type 0 w
   pub states : States
   pub tells : IsStateText states text
   pub shown : IsShownAgain files states world
+
+-- all that the reader had is the text that was loaded, and this is its SHA-256
+pub record IsLoadedFrom (before after : Option (List ℕ)) (files : Files) (world : World) (name : List ℕ) : Type 0 where
+  pub text : List ℕ
+  pub consumed : Consumes before after text
+  pub ends : IsAtEnd after
+  pub loaded : IsLoaded files text world
+  pub named : name ≡ sha256 text
 
 -- if the store has the objects of a sound world, the world's states are refused only if memory runs out or the store fails
 abbrev pub AcceptsItsWorld : Type 0

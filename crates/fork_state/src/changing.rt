@@ -2,7 +2,7 @@ ghost use Rattle.std.specs.Prelude.{◌≡◌, ◌<◌, ◌≤◌, ◌∷◌, �
 ghost use Rattle.std.specs.List.{list_any};
 ghost use Rattle.std.specs.Ordering.{eq_by_cmp};
 ghost use Rattle.git_name.specs.Name.{name_cmp};
-ghost use Rattle.fork_request.specs.declared.limit.TheConstants.{MAX_LIMIT};
+ghost use Rattle.fork_request.specs.declared.tenant_limit.TheConstants.{MAX_LIMIT};
 ghost use Rattle.fork_model.specs.declared.limits.TheConstants.{MAX_TENANTS};
 ghost use Rattle.state_text.specs.Adding.{AreBefore};
 ghost use Rattle.fork_state.specs.Changed.{states_limited, states_without};

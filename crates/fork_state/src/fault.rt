@@ -6,6 +6,8 @@ use git_name::Name;
 pub enum LoadFault {
     /// The first line, counted from 1, at which the text is not a state text.
     Line(u64),
+    /// The text could not be read.
+    Read,
     /// A tenant sees the object of this name, but the store has no file for it.
     Lost(Name),
     /// The file under this name is damaged.

@@ -1,6 +1,6 @@
 // Rebuilds a tenant's state with another limit.
 ghost use Rattle.std.specs.Prelude.{◌≡◌, ◌≢◌, ◌<◌, ◌≤◌, ◌∷◌, ◌++◌, [], IfOk, OnOk, length, map};
-ghost use Rattle.fork_request.specs.declared.limit.TheConstants.{MAX_LIMIT};
+ghost use Rattle.fork_request.specs.declared.tenant_limit.TheConstants.{MAX_LIMIT};
 ghost use Rattle.fork_model.specs.declared.limits.TheConstants.{MAX_OFFERS, MAX_REPOSITORIES};
 ghost use Rattle.state_text.specs.Adding.{AreBefore, with_offer, with_repository, with_seen};
 ghost use Rattle.state_text.specs.Offer.{words_of_offer};

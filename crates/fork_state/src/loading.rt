@@ -1,37 +1,41 @@
-ghost use Rattle.std.specs.Prelude.{◌≡◌, IfErr, IfOk, IsTrue};
+ghost use Rattle.std.specs.Prelude.{◌≡◌, IfErr, IfOk, IfSome, IsTrue};
 ghost use Rattle.fork_ledger.specs.Store.{IsOver};
 ghost use Rattle.fork_host.specs.Shown.{Trusted, world_of};
-ghost use Rattle.fork_state.specs.Loaded.{IsLoadFault, IsLoaded, IsText, IsTextFault, restore_fault};
+ghost use Rattle.fork_state.specs.Loaded.{IsLoadFault, IsLoadedFrom, IsTextFault, IsTextFrom, restore_fault};
 
 use crate::fault::LoadFault;
 use fork_host::{Host, RestoreError};
+use git_name::Name;
 use loose_store::LooseFiles;
 use state_text::{StateFault, read};
 use std::alloc::Global;
+use std::io::Read;
 
-/// Loads the host that the text describes, over the store that holds its objects. The text may be of either
-/// version. The text is checked first, whatever the store does; what it describes is checked after that.
-pub fn load<S: LooseFiles + Drop>(
+/// Loads the host that the text describes, over the store that holds its objects, and the SHA-256 of the text. The text may
+/// be of either version. It is read in pieces, to its end, and checked first, whatever the store does; what it describes is
+/// checked after that.
+pub fn load<S: LooseFiles + Drop, R: Read>(
     alloc: Global,
-    text: &[u8],
+    reader: &mut R,
     files: S,
-) -> Result<Host<S>, LoadFault>
-    ensures loaded { IsTrue (S.honest files) → IfOk result (λ host. IsLoaded (S.contents files) text.now (world_of host)) }
-    ensures refused { IsTrue (S.honest files) → IfErr result (IsLoadFault (S.contents files) text.now) }
+) -> Result<(Host<S>, Name), LoadFault>
+    ensures loaded { IsTrue (S.honest files) → IfOk result (λ found. IsLoadedFrom (R.remaining reader.old) (R.remaining reader.new) (S.contents files) (world_of found.0) found.1) }
+    ensures refused { IsTrue (S.honest files) → IfSome (R.remaining reader.old) (λ text. IfErr result (IsLoadFault (S.contents files) text)) }
 
     // Over any store.
-    ensures text { IfOk result (λ host. IsText text.now) }
-    ensures judged { IfErr result (IsTextFault text.now) }
-    ensures trusted { IfOk result (λ host. IsTrue (S.honest files) → Trusted host) }
-    ensures store { IfOk result (λ host. IsOver (S.contents files) (S.honest files) (S.failures files) host.vault) }
+    ensures text { IfOk result (λ found. IsTextFrom (R.remaining reader.old) (R.remaining reader.new) found.1) }
+    ensures judged { IfSome (R.remaining reader.old) (λ text. IfErr result (IsTextFault text)) }
+    ensures trusted { IfOk result (λ found. IsTrue (S.honest files) → Trusted found.0) }
+    ensures store { IfOk result (λ found. IsOver (S.contents files) (S.honest files) (S.failures files) found.0.vault) }
 {
-    let states = match read(alloc, text) {
-        Ok(states) => states,
+    let (states, name) = match read(alloc, reader) {
+        Ok(found) => found,
         Err(StateFault::Line(number)) => return Err(LoadFault::Line(number)),
+        Err(StateFault::Read) => return Err(LoadFault::Read),
         Err(StateFault::Memory) => return Err(LoadFault::Memory),
     };
     match Host::restore(alloc, files, states) {
-        Ok(host) => Ok(host),
+        Ok(host) => Ok((host, name)),
         Err(error) => Err(of_restore(error)),
     }
 }

@@ -7,8 +7,8 @@ use Rattle.std.proofs.lemmas.List.Elements.{All-append, All-cons, All-head, All-
 use Rattle.fork_frame.specs.Frame.{IsFrame, IsRequestStream, frame_bytes}
 use Rattle.fork_frame.specs.declared.asker.Asker.{Asker}
 use Rattle.fork_frame.specs.declared.asker.Asker.TheVariants.{Tenant, Host}
-use Rattle.fork_frame.specs.declared.ended.Ended.{Ended}
-use Rattle.fork_frame.specs.declared.ended.Ended.TheVariants.{Clean}
+use Rattle.fork_frame.specs.declared.session_end.Ended.{Ended}
+use Rattle.fork_frame.specs.declared.session_end.Ended.TheVariants.{Clean}
 use Rattle.fork_frame.specs.declared.frame.Frame.{Frame}
 use Rattle.fork_host.specs.Shown.{HostState, Trusted, world_of}
 use Rattle.fork_host.specs.Step.{IsRun}
@@ -26,7 +26,7 @@ use Rattle.fork_request.specs.declared.host_request.HostRequest.{HostRequest}
 use Rattle.fork_request.specs.declared.host_request.HostRequest.TheVariants.{Sweep, Collect, Census, Fsck, Tenants, Bad}
 use Rattle.fork_request.specs.declared.refusal.Refusal.TheVariants.{UnknownTenant}
 use Rattle.fork_request.specs.declared.reply.Reply.{Reply}
-use Rattle.fork_request.specs.declared.reply.Reply.TheVariants.{Done, Refused, Failed}
+use Rattle.fork_request.specs.declared.reply.Reply.TheVariants.{Done, Unchanged, Refused, Failed}
 use Rattle.fork_model.specs.Answer.{answer}
 use Rattle.fork_model.specs.Context.{met_by}
 use Rattle.fork_model.specs.Runs.{Asks, HostAsks, Answered, Unknown, Faulted, TenantStep, OwnStep, HostAnswered, HostFaulted}
@@ -125,6 +125,7 @@ kept_run old new (f ∷ frames) (r ∷ replies) run =
 -- a host fault is never kept
 kept_fine : (asker : Asker) (payload : List ℕ) (reply : Reply) → is_kept_of asker payload reply ≡ true → is_host_fault reply ≡ false
 kept_fine (Tenant name) payload (Done text) is = refl
+kept_fine (Tenant name) payload Unchanged is = refl
 kept_fine (Tenant name) payload (Refused refusal) is = refl
 kept_fine (Tenant name) payload (Failed fault) is = absurd (cc)
 kept_fine Host payload reply is = absurd (cc)

@@ -15,7 +15,7 @@ use Rattle.fork_request.specs.declared.reply.Reply.{Reply}
 use Rattle.fork_request.specs.declared.reply.Reply.TheVariants.{Done, Refused}
 use Rattle.fork_request.proofs.SpellingLemmas.{spelled_asked}
 use Rattle.push_stream.specs.Upload.{UploadValue, continued, upload_of}
-use Rattle.push_stream.specs.declared.upload.TheConstants.{MAX_UPLOAD}
+use Rattle.push_stream.specs.declared.upload_limit.TheConstants.{MAX_UPLOAD}
 use Rattle.push_stream.proofs.PieceLemmas.{piece_joins}
 use Rattle.fork_model.specs.Answer.{answer, open_upload, part_answer}
 use Rattle.fork_model.specs.Context.{Context, met_by}
@@ -51,7 +51,7 @@ part_step world tenant front piece view here is fits right =
     let told = ap (answer context view) (spelled_asked (codes "part\n" ++ piece) (SendsPart piece) right.fits refl) ∙ part_told context view front piece is fits in
     Answered view here (sym (ap (λ (row : Reply × View). row.0) told)) (sym (ap (λ (row : Reply × View). insert world tenant row.1) told))
 
-written_there : (world : World) (tenant : List ℕ) (view : View) → get (insert world tenant view) tenant ≡ Some view
+pub written_there : (world : World) (tenant : List ℕ) (view : View) → get (insert world tenant view) tenant ≡ Some view
 written_there world tenant view = get-insert name_total world tenant view tenant ∙ ap (λ b. cond b (Some view) (get world tenant)) ((eq_by_cmp_equiv name_total).refl tenant)
 
 -- what is written twice at one place is what was written last

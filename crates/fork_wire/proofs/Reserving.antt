@@ -7,8 +7,8 @@ use Rattle.fork_request.specs.Told.{is_host_fault}
 use Rattle.fork_request.specs.declared.reply.Reply.{Reply}
 use Rattle.fork_host.specs.Shown.{HostState}
 use Rattle.fork_frame.specs.Frame.{EndsAt, IsBad, IsFrame, IsRequestStream, frame_bytes}
-use Rattle.fork_frame.specs.declared.ended.Ended.{Ended}
-use Rattle.fork_frame.specs.declared.ended.Ended.TheVariants.{Clean, BadFrame}
+use Rattle.fork_frame.specs.declared.session_end.Ended.{Ended}
+use Rattle.fork_frame.specs.declared.session_end.Ended.TheVariants.{Clean, BadFrame}
 use Rattle.fork_frame.specs.declared.frame.Frame.{Frame}
 use Rattle.fork_frame.proofs.StreamLemmas.{ends_clean, is_stream}
 use Rattle.fork_wire.specs.Again.{IsAnsweredAgain, IsServedAgain}

@@ -15,7 +15,7 @@ use Rattle.git_name.proofs.MapLemmas.{get_map_values}
 use Rattle.git_name.proofs.Names.{name_exact, name_total}
 use Rattle.git_reftx.proofs.PushLemmas.{keys_ascend}
 use Rattle.push_stream.specs.Upload.{UploadValue, upload_of}
-use Rattle.push_stream.specs.declared.upload.TheConstants.{MAX_UPLOAD}
+use Rattle.push_stream.specs.declared.upload_limit.TheConstants.{MAX_UPLOAD}
 use Rattle.fork_request.specs.Told.{is_host_fault}
 use Rattle.fork_request.specs.declared.reply.Reply.{Reply}
 use Rattle.fork_model.specs.Sound.{IsOrderlyWorld}

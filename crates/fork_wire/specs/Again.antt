@@ -10,7 +10,7 @@ use Rattle.fork_model.specs.World.{AreFine, Event}
 use Rattle.fork_host.specs.Shown.{HostState}
 use Rattle.fork_host.specs.Step.{IsStep}
 use Rattle.fork_frame.specs.Frame.{IsRequestStream}
-use Rattle.fork_frame.specs.declared.ended.Ended.{Ended}
+use Rattle.fork_frame.specs.declared.session_end.Ended.{Ended}
 use Rattle.fork_frame.specs.declared.frame.Frame.{Frame}
 use Rattle.fork_wire.specs.Sessions.{IsAnswered, event_of}
 

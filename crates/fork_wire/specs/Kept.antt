@@ -3,7 +3,7 @@ use Rattle.std.specs.Prelude.{◌≡◌, Option, Result, Ok, Err, Bool, true, fa
 use Rattle.std.specs.Io.KnownBytes.{Keeps}
 use Rattle.fork_request.specs.Asked.{Ask, Inits, Drops, Forks, Pushes, SendsPart, EndsParts, DropsParts, Updates, SetsHead, MakesOffer, Withdraws, ForksOffer, AsksObject, AsksTree, AsksRevisions, AsksBases, AsksReferences, AsksHead, AsksOffers, AsksRepositories, Fetches, AsksUse, Prunes, NoRequest, asked}
 use Rattle.fork_request.specs.declared.reply.Reply.{Reply}
-use Rattle.fork_request.specs.declared.reply.Reply.TheVariants.{Done, Refused, Failed}
+use Rattle.fork_request.specs.declared.reply.Reply.TheVariants.{Done, Unchanged, Refused, Failed}
 use Rattle.fork_frame.specs.Frame.{frame_bytes}
 use Rattle.fork_frame.specs.declared.asker.Asker.{Asker}
 use Rattle.fork_frame.specs.declared.asker.Asker.TheVariants.{Tenant, Host}
@@ -46,6 +46,7 @@ is_part_end ask = false
 -- a request with this reply left the view unchanged
 abbrev pub leaves : Ask → Reply → Bool
 leaves ask (Done text) = only_asks ask
+leaves ask Unchanged = true
 leaves ask (Refused refusal) = not (is_part_end ask)
 leaves ask (Failed fault) = true
 

@@ -19,8 +19,8 @@ use Rattle.fork_frame.specs.Next.{BeginsFrame}
 use Rattle.fork_frame.specs.Reply.{WritesFront, last_line, reply_frame}
 use Rattle.fork_frame.specs.declared.asker.Asker.{Asker}
 use Rattle.fork_frame.specs.declared.asker.Asker.TheVariants.{Tenant, Host}
-use Rattle.fork_frame.specs.declared.ended.Ended.{Ended}
-use Rattle.fork_frame.specs.declared.ended.Ended.TheVariants.{BadFrame}
+use Rattle.fork_frame.specs.declared.session_end.Ended.{Ended}
+use Rattle.fork_frame.specs.declared.session_end.Ended.TheVariants.{BadFrame}
 use Rattle.fork_frame.specs.declared.frame.Frame.{Frame}
 use Rattle.fork_wire.specs.declared.fault.SessionFault.{SessionFault}
 use Rattle.fork_wire.specs.declared.fault.SessionFault.TheVariants.{Read, Write, Memory, Journal}

@@ -6,7 +6,7 @@ ghost use Rattle.fork_host.specs.Step.{IsStep};
 ghost use Rattle.fork_wire.specs.Again.{IsAnsweredAgain, IsServedAgain};
 ghost use Rattle.fork_wire.specs.Sessions.{event_of};
 
-use crate::journaling::may_change;
+use crate::kept::may_change;
 use crate::session::answer;
 use fork_frame::{Frame, FrameFault, Next, next_frame};
 use fork_host::Host;

@@ -9,7 +9,7 @@ ghost use Rattle.fork_wire.specs.Kept.{SyncedIf};
 ghost use Rattle.fork_wire.specs.Sessions.{IsAnswered};
 
 use crate::journal::{Journal, NotKept};
-use crate::journaling::may_change;
+use crate::kept::may_change;
 use crate::session::answer;
 use fork_connection::{Answering, Lost, Party, round};
 use fork_frame::Frame;

@@ -2,7 +2,7 @@ ghost use Rattle.std.specs.Prelude.{◌≡◌, ℕ, Bool, true, false, List, Opt
 ghost use Rattle.std.specs.Io.KnownBytes.{Appends, Keeps};
 ghost use Rattle.fork_frame.specs.Frame.{frame_bytes};
 
-use crate::journaling::visits_all;
+use crate::kept::visits_all;
 use chained_log::SyncData;
 use fork_frame::{Frame, write_frame};
 use fork_request::MAX_PAYLOAD;

@@ -1,54 +1,22 @@
-ghost use Rattle.std.specs.Prelude.{◌≡◌, ◌≤◌, ◌++◌, None, Some, ℕ, List, length};
+ghost use Rattle.std.specs.Prelude.{◌≡◌, ◌≢◌, true, false, ◌≤◌, ◌++◌, None, Some, ℕ, List, length};
 ghost use Rattle.std.specs.FinMap.{get, insert};
-ghost use Rattle.push_stream.specs.declared.upload.TheConstants.{MAX_UPLOAD};
-ghost use Rattle.fork_model.specs.Disclosure.{happenings};
+ghost use Rattle.push_stream.specs.declared.upload_limit.TheConstants.{MAX_UPLOAD};
 ghost use Rattle.fork_model.specs.Sound.{IsOrderlyWorld};
 ghost use Rattle.fork_model.specs.View.{View};
+ghost use Rattle.fork_request.specs.Asked.{Prunes, asked};
 ghost use Rattle.fork_request.specs.declared.reply.Reply.{Reply};
-ghost use Rattle.fork_model.specs.World.{Agree, AreFine, Explains, IsUnfaulted, LeavesOffers, World};
+ghost use Rattle.fork_model.specs.World.{AreFine, Explains, Steps, World};
 ghost use Rattle.fork_host.specs.Shown.{HostState, Trusted, world_of};
 ghost use Rattle.fork_host.specs.Uploads.{without_uploads, uploads_of};
 ghost use Rattle.fork_frame.specs.declared.frame.Frame.{Frame};
 ghost use Rattle.fork_frame.specs.Frame.{AreFrames, IsRequestStream};
-ghost use Rattle.fork_frame.specs.declared.ended.Ended.{Ended};
-ghost use Rattle.fork_frame.specs.declared.ended.Ended.TheVariants.{Clean};
+ghost use Rattle.fork_frame.specs.declared.session_end.Ended.{Ended};
+ghost use Rattle.fork_frame.specs.declared.session_end.Ended.TheVariants.{Clean};
 ghost use Rattle.fork_wire.specs.Again.{AreSettled, settled};
 ghost use Rattle.fork_wire.specs.AtOnce.{EachIsHeardAtOnce, RoundsAreOne};
-ghost use Rattle.fork_wire.specs.Kept.{kept_bytes, kept_of};
+ghost use Rattle.fork_wire.specs.Kept.{is_kept, kept_bytes, kept_of};
 ghost use Rattle.fork_wire.specs.Reopening.{ArePartFrames, Reopens, with_upload};
-ghost use Rattle.fork_wire.specs.Sessions.{IsAnswered, events_of, frames_of, payloads_of, told_to};
-
-/// A law, with no code to run: if two hosts over trusted stores show a tenant the same view and the same
-/// offers, and it sends the same payloads to both, then both send it the same bytes, whatever others send
-/// in between. Afterwards both again show it the same view and the same offers. This holds unless a host
-/// fault answered the tenant, or an offer to it was made or withdrawn. It also holds if equal offers to it
-/// are made and withdrawn at the same places between its requests. `frames` and `replies` are those of
-/// `IsServed` or `IsStopped`.
-pub fn two_sessions_agree()
-    ensures explained { (old new : HostState) (frames : List Frame) (replies : List Reply)
-        → IsAnswered old new frames replies → Trusted old → Explains (world_of old) (events_of frames) replies (world_of new) }
-    ensures replies { (tenant : List ℕ) (old new : HostState) (frames : List Frame) (replies : List Reply)
-        → (old2 new2 : HostState) (frames2 : List Frame) (replies2 : List Reply)
-        → IsAnswered old new frames replies → IsUnfaulted tenant (events_of frames) replies → LeavesOffers tenant (events_of frames) replies
-        → IsAnswered old2 new2 frames2 replies2 → IsUnfaulted tenant (events_of frames2) replies2 → LeavesOffers tenant (events_of frames2) replies2
-        → Trusted old → Trusted old2 → Agree tenant (world_of old) (world_of old2)
-        → payloads_of tenant frames ≡ payloads_of tenant frames2
-        → told_to tenant frames replies ≡ told_to tenant frames2 replies2 }
-    ensures worlds { (tenant : List ℕ) (old new : HostState) (frames : List Frame) (replies : List Reply)
-        → (old2 new2 : HostState) (frames2 : List Frame) (replies2 : List Reply)
-        → IsAnswered old new frames replies → IsUnfaulted tenant (events_of frames) replies → LeavesOffers tenant (events_of frames) replies
-        → IsAnswered old2 new2 frames2 replies2 → IsUnfaulted tenant (events_of frames2) replies2 → LeavesOffers tenant (events_of frames2) replies2
-        → Trusted old → Trusted old2 → Agree tenant (world_of old) (world_of old2)
-        → payloads_of tenant frames ≡ payloads_of tenant frames2
-        → Agree tenant (world_of new) (world_of new2) }
-    ensures disclosed { (tenant : List ℕ) (old new : HostState) (frames : List Frame) (replies : List Reply)
-        → (old2 new2 : HostState) (frames2 : List Frame) (replies2 : List Reply)
-        → (run : Explains (world_of old) (events_of frames) replies (world_of new)) → IsUnfaulted tenant (events_of frames) replies
-        → (run2 : Explains (world_of old2) (events_of frames2) replies2 (world_of new2)) → IsUnfaulted tenant (events_of frames2) replies2
-        → Agree tenant (world_of old) (world_of old2)
-        → happenings tenant (world_of old) (events_of frames) replies (world_of new) run ≡ happenings tenant (world_of old2) (events_of frames2) replies2 (world_of new2) run2
-        → (told_to tenant frames replies ≡ told_to tenant frames2 replies2) × Agree tenant (world_of new) (world_of new2) }
-{}
+ghost use Rattle.fork_wire.specs.Sessions.{IsAnswered, event_of, events_of, frames_of};
 
 /// A law, with no code to run: frames that are repeated get the same replies and lead to the same world, if
 /// the stores are trusted and show the same world, and no host fault occurs. The exception is the numbers
@@ -73,6 +41,13 @@ pub fn what_is_kept_is_enough()
     ensures worlds { (old new : HostState) (frames : List Frame) (replies : List Reply) (old2 new2 : HostState) (replies2 : List Reply)
         → IsAnswered old new frames replies → IsAnswered old2 new2 (kept_of frames replies) replies2 → AreFine replies2
         → Trusted old → Trusted old2 → world_of old ≡ world_of old2 → world_of new ≡ world_of new2 }
+{}
+
+/// A law, with no code to run: a frame that a journal does not keep changed nothing, and a prune that it keeps
+/// changed something.
+pub fn what_is_not_kept_changed_nothing()
+    ensures left { (old new : World) (frame : Frame) (reply : Reply) → Steps old (event_of frame) reply new → is_kept frame reply ≡ false → new ≡ old }
+    ensures pruned { (old new : World) (frame : Frame) (reply : Reply) → asked frame.payload ≡ Prunes → Steps old (event_of frame) reply new → is_kept frame reply ≡ true → new ≢ old }
 {}
 
 /// A law, with no code to run: a stream that is cut between two frames and served in two halves is

@@ -10,7 +10,7 @@ ghost use Rattle.fork_wire.specs.Sessions.{IsServed, IsStopped, event_of};
 
 use crate::fault::{SessionFault, of_frame, of_reply};
 use crate::journal::{Journal, NoJournal};
-use crate::journaling::keep_synced;
+use crate::kept::keep_synced;
 use fork_frame::{Asker, Ended, Frame, Next, next_frame, send_bad_frame, send_reply};
 use fork_host::Host;
 use fork_model::a_run_is_private;

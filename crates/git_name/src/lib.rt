@@ -4,8 +4,8 @@
 #![tactic(auto)]
 
 mod digits;
-mod hashing;
 mod kind;
+mod map_hashing;
 mod name;
 mod nearby;
 mod number;
@@ -13,8 +13,8 @@ mod order;
 mod sealed;
 mod text;
 
-pub use crate::hashing::Hashing;
 pub use crate::kind::Kind;
+pub use crate::map_hashing::Hashing;
 pub use crate::name::{Name, name_of};
 pub use crate::nearby::Nearby;
 pub use crate::number::decimal;

@@ -6,7 +6,7 @@ ghost use Rattle.indexmap.specs.IndexMap.{get};
 ghost use Rattle.indexmap.specs.IndexSet.{index_of};
 ghost use Rattle.git_name.specs.Same.{same_name};
 
-use crate::hashing::Hashing;
+use crate::map_hashing::Hashing;
 use crate::name::Name;
 use indexmap::{IndexMap, IndexSet};
 use std::array;

@@ -9,10 +9,10 @@ ghost use Rattle.git_tree.specs.Tree.{IsTree};
 
 use crate::entry::TreeEntry;
 use crate::fault::TreeFault;
+use crate::file_name::is_file_name;
 use crate::fronts::{Fronts, MANY};
 use crate::mode::Mode;
 use crate::place::{Last, place};
-use crate::reading::is_file_name;
 use git_name::Name;
 use memchr::memchr;
 use std::alloc::{AllocError, Global};

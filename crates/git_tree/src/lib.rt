@@ -6,6 +6,7 @@
 mod builder;
 mod entry;
 mod fault;
+mod file_name;
 mod first;
 mod fronts;
 mod laws;

@@ -1,27 +1,15 @@
-ghost use Rattle.std.specs.Prelude.{◌≡◌, ◌∷◌, ◌++◌, ◌<◌, ◌↔◌, IsTrue, length, IfSome, IfNone, IfOk, IfErr};
+ghost use Rattle.std.specs.Prelude.{◌≡◌, ◌∷◌, ◌++◌, ◌<◌, length, IfSome, IfNone, IfOk, IfErr};
 ghost use Rattle.git_name.specs.Name.{IsName};
-ghost use Rattle.git_name.specs.Text.{Lacks};
-ghost use Rattle.git_tree.specs.Entry.{IsFileName, IsEntry, spelled, plain_entry};
+ghost use Rattle.git_tree.specs.Entry.{IsEntry, spelled, plain_entry};
 ghost use Rattle.git_tree.specs.Fault.{IsFormFault};
 ghost use Rattle.git_tree.specs.declared.mode.Mode.{Mode};
 ghost use Rattle.git_tree.specs.Mode.{digits};
 
 use crate::entry::TreeEntry;
 use crate::fault::TreeFault;
+use crate::file_name::take_file_name;
 use crate::mode::Mode;
 use git_name::{Name, split_once};
-use memchr::{memchr, memchr2};
-
-// Whether an entry may have the file name. It contains no zero byte.
-pub(crate) fn is_file_name(bytes: &[u8]) -> bool
-    requires { Lacks 0 bytes.now }
-    ensures { IsTrue result ↔ IsFileName bytes.now }
-{
-    match bytes {
-        [] | b"." | b".." | b".git" => false,
-        _ => memchr(b'/', bytes).is_none(),
-    }
-}
 
 // The name at the start, and the bytes after it.
 fn take_name(bytes: &[u8]) -> Option<(Name, &[u8])>
@@ -62,41 +50,6 @@ fn take_mode(bytes: &[u8]) -> Result<(Mode, &[u8]), TreeFault>
         Some(mode) => Ok((mode, rest)),
         None => Err(TreeFault::Mode),
     }
-}
-
-// The file name at the start and what follows its zero, if one scan shows that it is valid.
-fn plain_file_name(bytes: &[u8]) -> Option<(&[u8], &[u8])>
-    ensures whole { IfSome result (λ p. bytes.now ≡ p.0.now ++ 0 ∷ p.1.now) }
-    ensures right { IfSome result (λ p. IsFileName p.0.now) }
-{
-    let Some(end) = memchr2(0, b'/', bytes) else {
-        return None;
-    };
-    if bytes[end] != 0 {
-        return None;
-    }
-    match &bytes[..end] {
-        [] | b"." | b".." | b".git" => None,
-        file_name => Some((file_name, &bytes[end + 1..])),
-    }
-}
-
-// The file name at the start and what follows its zero.
-fn take_file_name(bytes: &[u8]) -> Result<(&[u8], &[u8]), TreeFault>
-    ensures whole { IfOk result (λ p. bytes.now ≡ p.0.now ++ 0 ∷ p.1.now) }
-    ensures right { IfOk result (λ p. IsFileName p.0.now) }
-    ensures fault { IfErr result (λ fault. (mode : Mode) → IsFormFault fault (digits mode ++ 32 ∷ bytes.now)) }
-{
-    if let Some(taken) = plain_file_name(bytes) {
-        return Ok(taken);
-    }
-    let Some((file_name, rest)) = split_once(bytes, 0) else {
-        return Err(TreeFault::Truncated);
-    };
-    if !is_file_name(file_name) {
-        return Err(TreeFault::Name);
-    }
-    Ok((file_name, rest))
 }
 
 // The entry at the start, and the bytes after it.

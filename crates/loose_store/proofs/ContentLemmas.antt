@@ -42,7 +42,7 @@ own_in None q = false
 pub own : List ℕ → Bool
 own q = own_in (name_at (place_of q)) q
 
-clash : {P : Type 0} (b : Bool) → b ≡ true → b ≡ false → P
+pub clash : {P : Type 0} (b : Bool) → b ≡ true → b ≡ false → P
 clash true p q = absurd (cc)
 clash false p q = absurd (cc)
 

@@ -1,12 +1,13 @@
 -- What the effects of a device make of a folder's contents.
-use Rattle.std.proofs.Common.{◌≡◌, inl, inr, ℕ, ◌≤◌, Bool, true, false, List, [], ◌∷◌, None, Result, Ok, Err, OnOk, length, option_map, take, refl, sym, ◌∙◌, ap}
+use Rattle.std.proofs.Common.{◌≡◌, inl, inr, ℕ, ◌≤◌, Bool, true, false, List, None, Result, Ok, Err, OnOk, length, option_map, take, refl, sym, ◌∙◌, ap}
 use Rattle.std.specs.FinMap.{get, insert, remove}
-use Rattle.devices.specs.Device.{Past, Effect, Does, Wrote, Moved, Removed, files_of, with_effect, within}
+use Rattle.devices.specs.Device.{Past, Effect, Does, Wrote, Moved, Removed, SyncedFile, files_of, with_effect, within}
 use Rattle.devices.specs.Runs.{Runs}
 use Rattle.git_name.specs.Name.{IsName}
 use Rattle.loose_store.specs.Contents.{contents_of, contents_in}
 use Rattle.loose_store.specs.Files.{Files, SameBut}
 use Rattle.loose_store.specs.Place.{place_of, part_of, name_at}
+use Rattle.loose_store.specs.Swept.{put_steps}
 use Rattle.loose_store.specs.declared.device.TheConstants.{MAX_FILE}
 use Rattle.loose_store.proofs.ContentLemmas.{shown_whole, own_name, get_file, insert_other, remove_other, remove_named, moved_part, moved_away}
 use Rattle.loose_store.proofs.FilesLemmas.{insert_same_but, remove_same_but}
@@ -80,18 +81,33 @@ module _ (b c : Bool) (old new : Past) (h : b ≡ true) (same : c ≡ b) where
           ap (λ (p : List ℕ). contents (with_effect (with_effect old (Wrote part bytes)) (Moved part p))) path_is
           ∙ moved_part (files_of old) name bytes part (own_name name is_name) apart ∙ ap (insert (contents old) name) (shown_whole bytes fits)
 
-      pub put_ok : {A : Type 0} (E : Type 0) (answer : A) → Runs {A = A} {E = E} (Wrote part bytes ∷ Moved part path ∷ []) old new (Ok answer) → contents_in c new ≡ insert (contents_in b old) name bytes
-      put_ok E answer runs = lifted (λ files. insert files name bytes) (ap contents runs ∙ put_is)
+      pub put_ok : {A : Type 0} (E : Type 0) (synced : Bool) (answer : A) → Runs {A = A} {E = E} (put_steps synced part path bytes) old new (Ok answer) → contents_in c new ≡ insert (contents_in b old) name bytes
+      put_ok E true answer runs = lifted (λ files. insert files name bytes) (ap contents runs ∙ put_is)
+      put_ok E false answer runs = lifted (λ files. insert files name bytes) (ap contents runs ∙ put_is)
 
-      pub put_others : {A E : Type 0} (result : Result A E) → Runs (Wrote part bytes ∷ Moved part path ∷ []) old new result → SameBut name (contents_in b old) (contents_in c new)
-      put_others (Ok answer) runs = others_lifted name (others_as _ _ _ name (ap contents runs ∙ put_is) (insert_same_but (contents old) name bytes))
-      put_others (Err fault) (inl kept) = others_lifted name (others_kept _ _ name (ap contents kept))
-      put_others (Err fault) (inr (inl (cut, (n, of), is))) =
-          others_lifted name (others_kept _ _ name (ap contents is ∙ ap (λ (e : Effect). contents (with_effect old e)) of ∙ wrote_is (take n bytes)))
-      put_others (Err fault) (inr (inr (inl kept))) = others_lifted name (others_kept _ _ name (ap contents kept ∙ wrote_is bytes))
-      put_others (Err fault) (inr (inr (inr (inl (cut, of, is))))) =
-          others_lifted name (others_as _ _ _ name (ap contents is ∙ ap (λ (e : Effect). contents (with_effect (with_effect old (Wrote part bytes)) e)) of ∙ put_is) (insert_same_but (contents old) name bytes))
-      put_others (Err fault) (inr (inr (inr (inr all)))) = others_lifted name (others_as _ _ _ name (ap contents all ∙ put_is) (insert_same_but (contents old) name bytes))
+      none_others : contents new ≡ contents old → SameBut name (contents_in b old) (contents_in c new)
+      none_others is = others_lifted name (others_kept _ _ name is)
+
+      all_others : contents new ≡ insert (contents old) name bytes → SameBut name (contents_in b old) (contents_in c new)
+      all_others is = others_lifted name (others_as _ _ _ name is (insert_same_but (contents old) name bytes))
+
+      pub put_others : {A E : Type 0} (synced : Bool) (result : Result A E) → Runs (put_steps synced part path bytes) old new result → SameBut name (contents_in b old) (contents_in c new)
+      put_others true (Ok answer) runs = all_others (ap contents runs ∙ put_is)
+      put_others true (Err fault) (inl kept) = none_others (ap contents kept)
+      put_others true (Err fault) (inr (inl (cut, (n, of), is))) = none_others (ap contents is ∙ ap (λ (e : Effect). contents (with_effect old e)) of ∙ wrote_is (take n bytes))
+      put_others true (Err fault) (inr (inr (inl kept))) = none_others (ap contents kept ∙ wrote_is bytes)
+      put_others true (Err fault) (inr (inr (inr (inl (cut, of, is))))) = none_others (ap contents is ∙ ap (λ (e : Effect). contents (with_effect (with_effect old (Wrote part bytes)) e)) of ∙ wrote_is bytes)
+      put_others true (Err fault) (inr (inr (inr (inr (inl kept))))) = none_others (ap contents kept ∙ wrote_is bytes)
+      put_others true (Err fault) (inr (inr (inr (inr (inr (inl (cut, of, is))))))) =
+          all_others (ap contents is ∙ ap (λ (e : Effect). contents (with_effect (with_effect (with_effect old (Wrote part bytes)) (SyncedFile part)) e)) of ∙ put_is)
+      put_others true (Err fault) (inr (inr (inr (inr (inr (inr all)))))) = all_others (ap contents all ∙ put_is)
+      put_others false (Ok answer) runs = all_others (ap contents runs ∙ put_is)
+      put_others false (Err fault) (inl kept) = none_others (ap contents kept)
+      put_others false (Err fault) (inr (inl (cut, (n, of), is))) = none_others (ap contents is ∙ ap (λ (e : Effect). contents (with_effect old e)) of ∙ wrote_is (take n bytes))
+      put_others false (Err fault) (inr (inr (inl kept))) = none_others (ap contents kept ∙ wrote_is bytes)
+      put_others false (Err fault) (inr (inr (inr (inl (cut, of, is))))) =
+          all_others (ap contents is ∙ ap (λ (e : Effect). contents (with_effect (with_effect old (Wrote part bytes)) e)) of ∙ put_is)
+      put_others false (Err fault) (inr (inr (inr (inr all)))) = all_others (ap contents all ∙ put_is)
 
 -- what is read at the place of a name
 pub read_is : (b : Bool) (past : Past) (name path : List ℕ) → b ≡ true → IsName name → path ≡ place_of name → option_map (within MAX_FILE) (get (files_of past) path) ≡ get (contents_in b past) name

@@ -46,11 +46,11 @@ decoded text name is = from (decode_sized text 32) is
     from (Ok found) is = ap Ok (kept _ found is)
     from (Err error) is = absurd (cc)
 
-record IsSpelled (text name : List ℕ) : Type 0 where
-  is_name : IsName name
-  digits : All (λ c. is_hex_digit c ≡ true) text
+pub record IsSpelled (text name : List ℕ) : Type 0 where
+  pub is_name : IsName name
+  pub digits : All (λ c. is_hex_digit c ≡ true) text
 
-spelled : (text name : List ℕ) → name_in text ≡ Some name → IsSpelled text name
+pub spelled : (text name : List ℕ) → name_in text ≡ Some name → IsSpelled text name
 spelled text name is =
     let read = decoded text name is in
     let long : length text ≡ 64 = decode_sized-ok text 32 name read in
@@ -66,7 +66,7 @@ parts_name front rest name is = by (nat_eq (length front) 2) (nat_eq (length res
     by true false is = absurd (cc)
     by false d is = absurd (cc)
 
-no_slash_digit : (c : ℕ) → is_hex_digit c ≡ true → nat_eq c 47 ≡ false
+pub no_slash_digit : (c : ℕ) → is_hex_digit c ≡ true → nat_eq c 47 ≡ false
 no_slash_digit c digit = not_true _ (λ same.
     let is : c ≡ 47 = (Decides-eqb c 47).0 same in
     let bad : is_hex_digit 47 ≡ true = subst (λ (n : ℕ). is_hex_digit n ≡ true) is digit in
@@ -80,7 +80,7 @@ any_parts p (x ∷ xs) ys e = any_parts p xs ys (second (p x) _ e)
     second true b e = absurd (cc)
     second false b e = e
 
-no_slash : (front rest name : List ℕ) → name_of_parts front rest ≡ Some name → list_any (λ b. nat_eq b 47) rest ≡ false
+pub no_slash : (front rest name : List ℕ) → name_of_parts front rest ≡ Some name → list_any (λ b. nat_eq b 47) rest ≡ false
 no_slash front rest name is =
     any_parts (λ b. nat_eq b 47) front rest
     (list_any_none (λ (b : ℕ). nat_eq b 47) (front ++ rest) (All-weaker (λ c. is_hex_digit c ≡ true) (λ c. nat_eq c 47 ≡ false) no_slash_digit (front ++ rest) (spelled (front ++ rest) name (parts_name front rest name is)).digits))

@@ -1,8 +1,6 @@
 ghost use Rattle.std.specs.Prelude.{◌≡◌, Ok, IsErr, IfOk, IfErr};
 
 use crate::files::FileFault;
-use devices::{read_all, regular};
-use std::alloc::Global;
 use std::io::ErrorKind;
 use std::rt::Files;
 use std::{fs, io};
@@ -24,12 +22,6 @@ pub(crate) fn told<T: Drop>(answer: io::Result<T>) -> Result<T, FileFault>
         Err(error) if error.kind() == ErrorKind::OutOfMemory => Err(FileFault::Memory),
         Err(_) => Err(FileFault::Device),
     }
-}
-
-/// All bytes of a regular file.
-pub(crate) fn read_whole(rt: &impl Files, alloc: Global, path: &str) -> io::Result<Vec<u8>> {
-    let length = regular(rt, path)?.len();
-    read_all(rt, alloc, path, length)
 }
 
 /// Renames a part that was written and closed to its file, replacing a file of that name. After a failure, removes the

@@ -2,7 +2,7 @@ use std::alloc::{AllocError, Global};
 use std::cell::Cell;
 use std::rc::Rc;
 
-/// Whether a folder takes objects. A folder shares it with its reserve, which shuts it while it is given back.
+/// Whether a store takes objects. A store shares it with the reserve of its folder, which shuts it while it is given back.
 #[derive(Drop)]
 pub struct Gate {
     is_shut: Rc<Cell<bool>>,
@@ -10,19 +10,19 @@ pub struct Gate {
 
 impl Gate {
     /// A gate that is open.
-    pub(crate) fn new(alloc: Global) -> Result<Gate, AllocError> {
+    pub fn new(alloc: Global) -> Result<Gate, AllocError> {
         let is_shut = Rc::new(alloc, Cell::new(false))?;
         Ok(Gate { is_shut })
     }
 
     /// The same gate, for another owner.
-    pub(crate) fn share(&self) -> Result<Gate, AllocError> {
+    pub fn share(&self) -> Result<Gate, AllocError> {
         let is_shut = self.is_shut.clone()?;
         Ok(Gate { is_shut })
     }
 
     /// Whether no object is taken.
-    pub(crate) fn is_shut(&self) -> bool {
+    pub fn is_shut(&self) -> bool {
         self.is_shut.as_ref().get()
     }
 

@@ -5,6 +5,7 @@
 
 mod checked;
 mod device;
+mod either_store;
 mod failures;
 mod files;
 mod folder;
@@ -17,13 +18,16 @@ mod listing;
 mod making;
 mod memory;
 mod memory_file;
-mod objects;
+mod object_file;
+mod opening;
 mod other_journals;
 mod place;
 mod reserve;
+mod rewriting;
 mod state_file;
 mod stored;
 mod swept;
+mod syncing;
 mod unsynced;
 
 pub use crate::checked::{StoreFault, read_checked};
@@ -34,9 +38,10 @@ pub use crate::gate::Gate;
 pub use crate::journal_file::{
     begin_journal, clear_journals, journal_name, open_journal, open_old_journal, settle_journal,
 };
-pub use crate::laws::one_object;
+pub use crate::laws::{one_object, what_lasts_goes_on, what_lasts_is_left, what_was_synced_lasts};
+pub use crate::making::create_folder_with;
 pub use crate::memory::Memory;
 pub use crate::other_journals::has_other_journal;
 pub use crate::reserve::Reserve;
-pub use crate::state_file::{read_state, write_state};
+pub use crate::state_file::{begin_state, drop_state, open_state, settle_state};
 pub use crate::stored::{content_of, file_of};

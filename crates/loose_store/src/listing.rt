@@ -4,14 +4,14 @@ ghost use Rattle.devices.specs.Device.{files_of};
 ghost use Rattle.loose_store.specs.Contents.{contents_in};
 ghost use Rattle.loose_store.specs.Listing.{names_at, names_below, names_called, one_or_none};
 
-use crate::objects::list_folder;
+use crate::object_file::list_folder;
 use crate::place::{home_of, name_at};
 use devices::{Device, DeviceFault};
 use git_name::Name;
 use std::alloc::{AllocError, Global};
 
-// Adds a name, if there is one.
-fn add_name(names: &mut Vec<Name>, name: Option<Name>) -> Result<(), AllocError>
+/// Adds a name, if there is one.
+pub(crate) fn add_name(names: &mut Vec<Name>, name: Option<Name>) -> Result<(), AllocError>
     ensures { OnOk result (names.new.items ≡ names.old.items ++ one_or_none name) }
 {
     let Some(name) = name else {
@@ -53,6 +53,7 @@ fn list_home<D: Device>(
 // The names of all files of objects, home by home.
 fn list_homes<D: Device>(device: &mut D, alloc: Global) -> Result<Vec<Name>, DeviceFault>
     ensures found { IsTrue (D.honest device.old) → IfOk result (λ names. names.items ≡ names_below 256 (map.keys (files_of (D.past device.old)))) }
+    ensures past { IsTrue (D.honest device.old) → D.past device.new ≡ D.past device.old }
     ensures kept { contents_in (D.honest device.new) (D.past device.new) ≡ contents_in (D.honest device.old) (D.past device.old) }
     ensures honest { D.honest device.new ≡ D.honest device.old }
 {
@@ -66,6 +67,7 @@ fn list_homes<D: Device>(device: &mut D, alloc: Global) -> Result<Vec<Name>, Dev
 /// The names of all files of objects, ascending. Files with other names are ignored.
 pub(crate) fn list_all<D: Device>(device: &mut D, alloc: Global) -> Result<Vec<Name>, DeviceFault>
     ensures found { IsTrue (D.honest device.old) → IfOk result (λ names. names.items ≡ map.keys (contents_in (D.honest device.old) (D.past device.old))) }
+    ensures past { IsTrue (D.honest device.old) → D.past device.new ≡ D.past device.old }
     ensures kept { contents_in (D.honest device.new) (D.past device.new) ≡ contents_in (D.honest device.old) (D.past device.old) }
     ensures honest { D.honest device.new ≡ D.honest device.old }
 {

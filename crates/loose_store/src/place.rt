@@ -58,7 +58,8 @@ pub(crate) fn part_path(alloc: Global, name: Name) -> Result<String, AllocError>
 
 /// The path of the swept file of a name.
 pub(crate) fn swept_path(alloc: Global, name: Name) -> Result<String, AllocError>
-    ensures { IfOk result (λ path. string_bytes path ≡ swept_of name) }
+    ensures path { IfOk result (λ path. string_bytes path ≡ swept_of name) }
+    ensures name { IsName name }
 {
     let digits = hex::encode(alloc, name.as_bytes().as_slice())?;
     let mut path = String::from_str(alloc, "swept/")?;

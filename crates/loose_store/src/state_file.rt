@@ -1,68 +1,71 @@
-use crate::device::{PART, read_whole, settle, told};
+use crate::device::{PART, told};
 use crate::files::FileFault;
 use crate::place::inside;
 use crate::reserve::Reserve;
-use devices::{create_file, found, sync_folder};
+use devices::{create_file, found, regular, sync_folder};
 use std::alloc::Global;
-use std::fs::OpenFile;
-use std::io;
-use std::io::Write;
 use std::rt::Files;
+use std::{fs, io};
 
 /// The file of the state in a host's folder.
 pub(crate) const STATE: &str = "state";
 
-fn read_in(rt: &impl Files, alloc: Global, folder: &str) -> io::Result<Option<Vec<u8>>> {
+fn open_regular<R: Files>(rt: &R, path: &str) -> io::Result<R::File> {
+    regular(rt, path)?;
+    fs::open(rt, path)
+}
+
+fn open_in<R: Files>(rt: &R, alloc: Global, folder: &str) -> io::Result<Option<R::File>> {
     let path = inside(alloc, folder, STATE)?;
-    found(read_whole(rt, alloc, path.as_str()))
+    found(open_regular(rt, path.as_str()))
 }
 
-fn write_synced(rt: &impl Files, path: &str, bytes: &[u8]) -> io::Result<()> {
-    let mut file = create_file(rt, path)?;
-    file.write_all(bytes)?;
-    file.sync_all()
-}
-
-fn write_in(rt: &impl Files, alloc: Global, folder: &str, bytes: &[u8]) -> io::Result<()> {
-    let path = inside(alloc, folder, STATE)?;
-    let part = inside(alloc, folder, PART)?;
-    let written = write_synced(rt, part.as_str(), bytes);
-    settle(rt, written, part.as_str(), path.as_str())?;
-    sync_folder(rt, folder)
-}
-
-// The same, and once more from the beginning if the reserve made room for it.
-fn write_with(
-    rt: &impl Files,
-    alloc: Global,
-    folder: &str,
-    bytes: &[u8],
-    reserve: &Reserve,
-) -> io::Result<()> {
-    match write_in(rt, alloc, folder, bytes) {
-        Err(error) if reserve.gives_back(&error) => write_in(rt, alloc, folder, bytes),
-        written => written,
+// Renames, and once more if the reserve made room for it.
+fn rename_with(rt: &impl Files, part: &str, path: &str, reserve: &Reserve) -> io::Result<()> {
+    match fs::rename(rt, part, path) {
+        Err(error) if reserve.gives_back(&error) => fs::rename(rt, part, path),
+        renamed => renamed,
     }
 }
 
-/// Reads the file `state` in the folder at this path, if it exists.
-pub fn read_state(
-    rt: &impl Files,
-    alloc: Global,
-    path: &str,
-) -> Result<Option<Vec<u8>>, FileFault> {
-    told(read_in(rt, alloc, path))
+fn settle_in(rt: &impl Files, alloc: Global, folder: &str, reserve: &Reserve) -> io::Result<()> {
+    let path = inside(alloc, folder, STATE)?;
+    let part = inside(alloc, folder, PART)?;
+    rename_with(rt, part.as_str(), path.as_str(), reserve)?;
+    sync_folder(rt, folder)
 }
 
-/// Writes the file `state` in the folder at this path, replacing one that exists. After an `Err`, a kill or a loss of
-/// power the file has the whole old text or the whole new one; after `Ok` it has the new one. If there is no room, the
-/// reserve is given back for it. This process must have the folder open (`Folder::open`).
-pub fn write_state(
+/// Opens the file `state` in the folder at this path, if it exists, to be read.
+pub fn open_state<R: Files>(
+    rt: &R,
+    alloc: Global,
+    path: &str,
+) -> Result<Option<R::File>, FileFault> {
+    told(open_in(rt, alloc, path))
+}
+
+/// Begins the part of a new state: the empty file `part` in the folder at this path. Whoever writes it syncs it. This
+/// process must have the folder open (`Folder::open`), and writes one state at a time.
+pub fn begin_state<R: Files>(rt: &R, alloc: Global, path: &str) -> io::Result<R::File> {
+    let part = inside(alloc, path, PART)?;
+    create_file(rt, part.as_str())
+}
+
+/// Makes the part, which was written and synced, the file `state` of the folder at this path, replacing one that exists.
+/// After an `Err`, a kill or a loss of power the folder has the old state or the new one; after `Ok` it has the new one. If
+/// there is no room, the reserve is given back for it.
+pub fn settle_state(
     rt: &impl Files,
     alloc: Global,
     path: &str,
-    bytes: &[u8],
     reserve: &Reserve,
 ) -> Result<(), FileFault> {
-    told(write_with(rt, alloc, path, bytes, reserve))
+    told(settle_in(rt, alloc, path, reserve))
+}
+
+/// Removes the part of a state that is not wanted. If that fails, the next opening of the folder removes it.
+pub fn drop_state(rt: &impl Files, alloc: Global, path: &str) {
+    if let Ok(part) = inside(alloc, path, PART) {
+        let _removed = fs::remove_file(rt, part.as_str());
+    }
 }

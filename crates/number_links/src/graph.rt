@@ -10,13 +10,13 @@ ghost use Rattle.number_links.specs.declared.along.Along.TheVariants.{Links as a
 
 use crate::along::{Along, time_beside};
 use crate::climbing::climb_all;
-use crate::descent::bases;
 use crate::generations::Generations;
 use crate::ground::Ground;
 use crate::history::near;
 use crate::keeping::keep_all;
 use crate::kept::{Kept, let_go};
 use crate::links::Links;
+use crate::merge_bases::bases;
 use crate::number_set::NumberSet;
 use crate::resting::Resting;
 use crate::taking::reach_all;

@@ -9,9 +9,9 @@ ghost use Rattle.number_links.specs.Known.{known};
 ghost use Rattle.number_links.specs.Reach.{IsReached};
 ghost use Rattle.number_links.specs.declared.along.Along.TheVariants.{Parents as along_parents};
 
-use crate::descent::note;
 use crate::ground::Ground;
 use crate::keys::{last_key, last_of, number_of};
+use crate::merge_bases::note;
 use crate::number_set::NumberSet;
 use crate::waiting::{put_all, settle};
 use std::alloc::{AllocError, Global};

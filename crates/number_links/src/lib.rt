@@ -5,7 +5,6 @@
 
 mod along;
 mod climbing;
-mod descent;
 mod generations;
 mod graph;
 mod ground;
@@ -16,6 +15,7 @@ mod keys;
 mod links;
 mod lists;
 mod marking;
+mod merge_bases;
 mod noting;
 mod number_set;
 mod packing;

@@ -11,7 +11,7 @@ use Rattle.git_reftx.specs.Reading.{command_at}
 use Rattle.git_reftx.specs.declared.reading.TheConstants.{MAX_COMMANDS}
 use Rattle.push_stream.specs.declared.fault.BodyError.{BodyError}
 use Rattle.push_stream.specs.declared.gaining.Added.{Added}
-use Rattle.push_stream.specs.declared.record.TheConstants.{MAX_REST}
+use Rattle.push_stream.specs.declared.content_limit.TheConstants.{MAX_REST}
 use Rattle.push_stream.specs.Adding.{IsAdded}
 use Rattle.push_stream.specs.Gaining.{Awaits, EndsIn, HasFront}
 use Rattle.push_stream.specs.Reading.{added_in}

@@ -13,7 +13,7 @@ use Rattle.push_stream.specs.declared.fault.BodyError.{BodyError}
 use Rattle.push_stream.specs.declared.fault.BodyError.TheVariants.{Fault, Memory}
 use Rattle.push_stream.specs.declared.fault.StreamFault.TheVariants.{TooMany, BadObject}
 use Rattle.push_stream.specs.declared.record.Head.{Head}
-use Rattle.push_stream.specs.declared.record.TheConstants.{MAX_CONTENT}
+use Rattle.push_stream.specs.declared.content_limit.TheConstants.{MAX_CONTENT}
 use Rattle.push_stream.specs.Gaining.{TellsBreak, TellsWrong, headed_by, is_cut, is_truncated}
 use Rattle.push_stream.specs.Record.{PartsAt, Parts, Short, Faulty, RecordAt, Taken, Open, Wrong, parts_at, parts_of_line, parts_of_head, parts_of_content, head_of_words, record_at, record_of_parts}
 use Rattle.push_stream.specs.Shown.{TellsRecord}

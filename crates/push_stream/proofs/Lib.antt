@@ -2,7 +2,7 @@ pub mod Examples
 pub mod FrontLemmas
 pub mod GainingLemmas
 pub mod HeaderLemmas
-pub mod IncomingLemmas
+pub mod OpenUploadLemmas
 pub mod LengthLemmas
 pub mod LineLemmas
 pub mod LongerLemmas

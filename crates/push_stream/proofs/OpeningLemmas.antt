@@ -9,14 +9,14 @@ use Rattle.push_stream.specs.declared.again.TheConstants.{MAX_HEADER}
 use Rattle.push_stream.specs.declared.fault.StreamFault.{StreamFault}
 use Rattle.push_stream.specs.declared.sent.Sent.{Sent}
 use Rattle.push_stream.specs.Again.{OpensAs, OpensBroken, OpensGoing, record_size, records_size, told_in}
-use Rattle.push_stream.specs.Incoming.{IsStanding, flow_from, rest_of}
+use Rattle.push_stream.specs.OpenUpload.{IsStanding, flow_from, rest_of}
 use Rattle.push_stream.specs.Reading.{Flow, Going, Broken, Reading, added_in, flow_of, reading_of, sent_of}
 use Rattle.push_stream.specs.Record.{record_line, record_of}
 use Rattle.push_stream.specs.Spelling.{AreWithin, records_of}
 use Rattle.push_stream.specs.Stream.{AreObjects, Breaks, Flows, Stream, behind, records_in, sent_in, stream_of}
 use Rattle.push_stream.specs.Upload.{stream_with}
 use Rattle.push_stream.proofs.GainingLemmas.{open_in}
-use Rattle.push_stream.proofs.IncomingLemmas.{waits_on}
+use Rattle.push_stream.proofs.OpenUploadLemmas.{waits_on}
 use Rattle.push_stream.proofs.LengthLemmas.{header_short}
 use Rattle.push_stream.proofs.PieceLemmas.{stream_grows}
 use Rattle.push_stream.proofs.WrittenLemmas.{append-none, records_again}

@@ -27,7 +27,7 @@ use Rattle.git_reftx.specs.Reading.{command_at, command_of_line, command_taken}
 use Rattle.push_stream.specs.declared.fault.StreamFault.TheVariants.{TooMany, TooLarge, WrongName, BadObject}
 use Rattle.push_stream.specs.declared.fault.StreamFault.{StreamFault}
 use Rattle.push_stream.specs.declared.record.Head.{Head}
-use Rattle.push_stream.specs.declared.record.TheConstants.{MAX_CONTENT, MAX_REST}
+use Rattle.push_stream.specs.declared.content_limit.TheConstants.{MAX_CONTENT, MAX_REST}
 use Rattle.push_stream.specs.Gaining.{Awaits}
 use Rattle.push_stream.specs.Record.{PartsAt, Parts, Short, Faulty, RecordAt, Taken, Open, Wrong, head_of_words, content_at, parts_of_content, parts_of_head, parts_of_line, parts_at, record_of_parts, record_at}
 use Rattle.push_stream.specs.Reading.{flow_of, reading_of, rest_in}

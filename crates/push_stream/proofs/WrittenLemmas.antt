@@ -25,7 +25,7 @@ use Rattle.git_reftx.specs.declared.reading.TheConstants.{MAX_COMMANDS}
 use Rattle.git_reftx.specs.Reading.{command_at, with_command, and_others, commands_in, commands_of}
 use Rattle.push_stream.specs.declared.fault.StreamFault.TheVariants.{TooLarge, WrongName, BadObject}
 use Rattle.push_stream.specs.declared.record.Head.{Head}
-use Rattle.push_stream.specs.declared.record.TheConstants.{MAX_CONTENT}
+use Rattle.push_stream.specs.declared.content_limit.TheConstants.{MAX_CONTENT}
 use Rattle.push_stream.specs.Record.{Parts, Faulty, Taken, Wrong, record_line, record_of, head_of_parts, head_of_words, parts_of_content, content_at, parts_of_head, parts_of_line, parts_at, right, named, record_of_parts, record_at}
 use Rattle.push_stream.specs.Spelling.{AreWithin, IsStream, records_of}
 use Rattle.push_stream.specs.Stream.{Flows, AreObjects, behind, after_record, records_in, after_command, header_in, stream_of}

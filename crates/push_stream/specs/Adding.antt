@@ -2,7 +2,7 @@
 use Rattle.std.specs.Prelude.{◌≡◌, ◌++◌, ◌+◌, ◌≤◌, ℕ, Bool, false, List, [], length}
 use Rattle.git_reftx.specs.declared.reading.TheConstants.{MAX_COMMANDS}
 use Rattle.push_stream.specs.declared.gaining.Added.{Added}
-use Rattle.push_stream.specs.declared.record.TheConstants.{MAX_REST}
+use Rattle.push_stream.specs.declared.content_limit.TheConstants.{MAX_REST}
 use Rattle.push_stream.specs.Gaining.{Awaits}
 use Rattle.push_stream.specs.Reading.{added_in}
 use Rattle.push_stream.specs.Spelling.{records_of}

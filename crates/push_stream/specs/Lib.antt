@@ -2,7 +2,7 @@ pub mod Adding
 pub mod Again
 pub mod Brief
 pub mod Gaining
-pub mod Incoming
+pub mod OpenUpload
 pub mod Reading
 pub mod Record
 pub mod Shown

@@ -4,7 +4,7 @@ use Rattle.std.specs.List.{AllByRecursion, flat_map}
 use Rattle.git_name.specs.Object.{Object}
 use Rattle.git_reftx.specs.declared.command.Command.{Command}
 use Rattle.git_reftx.specs.Reading.{commands_of}
-use Rattle.push_stream.specs.declared.record.TheConstants.{MAX_CONTENT}
+use Rattle.push_stream.specs.declared.content_limit.TheConstants.{MAX_CONTENT}
 use Rattle.push_stream.specs.Record.{record_of}
 use Rattle.push_stream.specs.Stream.{AreObjects}
 

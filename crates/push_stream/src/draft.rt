@@ -1,9 +1,9 @@
 // An upload with the piece that is looked at, which may still be dropped.
 ghost use Rattle.std.specs.Prelude.{◌≡◌, ◌≤◌, ◌<◌, ◌+◌, ◌++◌, None, true, false, [], IfOk, IsTrue, OnOk, OnErr, length, map};
 ghost use Rattle.git_name.specs.Text.{Begins};
-ghost use Rattle.push_stream.specs.declared.upload.TheConstants.{MAX_UPLOAD};
+ghost use Rattle.push_stream.specs.declared.upload_limit.TheConstants.{MAX_UPLOAD};
 ghost use Rattle.push_stream.specs.Again.{Opens};
-ghost use Rattle.push_stream.specs.Incoming.{Grows, IsStanding, is_broken, opening_at, opening_with, reading_at, reading_with};
+ghost use Rattle.push_stream.specs.OpenUpload.{Grows, IsStanding, is_broken, opening_at, opening_with, reading_at, reading_with};
 ghost use Rattle.push_stream.specs.Reading.{gained, read_on, sent_of};
 
 use crate::fault::{BodyError, StreamFault};

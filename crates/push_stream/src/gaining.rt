@@ -3,7 +3,7 @@ ghost use Rattle.std.specs.Prelude.{◌≡◌, ◌-◌, ◌+◌, ◌≤◌, ◌+
 ghost use Rattle.git_reftx.specs.declared.fault.CommandFault.TheVariants.{Truncated};
 ghost use Rattle.git_reftx.specs.declared.reading.TheConstants.{MAX_COMMANDS};
 ghost use Rattle.git_reftx.specs.Reading.{command_at};
-ghost use Rattle.push_stream.specs.declared.record.TheConstants.{MAX_REST};
+ghost use Rattle.push_stream.specs.declared.content_limit.TheConstants.{MAX_REST};
 ghost use Rattle.push_stream.specs.Adding.{IsAdded};
 ghost use Rattle.push_stream.specs.Gaining.{Awaits, EndsIn, HasFront, TellsBreak, TellsWrong, headed_by, is_cut, is_truncated};
 ghost use Rattle.push_stream.specs.Reading.{added_in};

@@ -1,6 +1,6 @@
 ghost use Rattle.std.specs.Prelude.{◌≡◌, ◌≤◌, ◌++◌, ℕ, List, length};
 ghost use Rattle.push_stream.specs.Brief.{brief_of};
-ghost use Rattle.push_stream.specs.declared.record.TheConstants.{MAX_REST};
+ghost use Rattle.push_stream.specs.declared.content_limit.TheConstants.{MAX_REST};
 ghost use Rattle.push_stream.specs.Reading.{finished_flow, gained, gained_by, read_on, reading_of, rest_in};
 ghost use Rattle.push_stream.specs.Stream.{finished, stream_of};
 

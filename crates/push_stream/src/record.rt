@@ -7,18 +7,12 @@ ghost use Rattle.push_stream.specs.Gaining.{Awaits};
 ghost use Rattle.push_stream.specs.Record.{Taken, head_of_parts, head_of_words, content_at, parts_at, record_at};
 ghost use Rattle.push_stream.specs.Shown.{record_parts_shown, TellsRecord};
 
+use crate::content_limit::MAX_CONTENT;
 use crate::fault::{BodyError, StreamFault};
 use git_name::{Kind, Name, Sealed, decimal, first_word, seal};
 use git_object::Object;
 use git_reftx::{Line, first_line};
 use std::alloc::Global;
-
-/// The greatest length of an object's content, in bytes, that a host takes (own).
-pub const MAX_CONTENT: usize = 8_388_608;
-
-/// The greatest length of a stream's unfinished rest in bytes (own): a record's line of 79 bytes, its LF, and
-/// a content.
-pub const MAX_REST: usize = MAX_CONTENT + 80;
 
 // What a record's line says.
 #[derive(Clone, Copy, Debug)]

@@ -10,7 +10,6 @@ mod entry;
 mod iter;
 mod map;
 mod search;
-mod sharing;
 mod spot;
 
 pub use crate::iter::Iter;

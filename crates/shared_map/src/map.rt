@@ -8,11 +8,12 @@ ghost use Rattle.git_name.specs.Name.{name_cmp};
 ghost use Rattle.shared_map.specs.Building.{set_in};
 ghost use Rattle.shared_map.specs.Chunks.{kept};
 
+mod sharing;
+
 use crate::building::rebuilt;
 use crate::chunks::{Chunks, entries_at, push_to, slice_of};
 use crate::iter::Iter;
 use crate::search::{are_chunks_before, chunk_for, count_before};
-use crate::sharing::shared_with;
 use crate::spot::spot_of;
 use git_name::Name;
 use std::alloc::{AllocError, Global};
@@ -110,40 +111,6 @@ impl SharedMap {
         ensures err { OnErr result (self.new ≡ self.old) }
     {
         self.change(key, &None)
-    }
-
-    /// A copy, which shares all its memory with this map.
-    pub fn copy(&self) -> Result<SharedMap, AllocError>
-        ensures { IfOk result (λ copied. copied ≡ self.now) }
-    {
-        let Some(chunks) = &self.chunks else {
-            return Ok(SharedMap::new(self.alloc));
-        };
-        let chunks = chunks.share()?;
-        Ok(SharedMap {
-            alloc: self.alloc,
-            count: self.len(),
-            chunks: Some(chunks),
-        })
-    }
-
-    /// Shares with another map what both have at the same place, so that it is in memory once. An `Err`
-    /// leaves the map as it was. Its time is linear in this map.
-    pub fn share_with(&mut self, other: &SharedMap) -> Result<(), AllocError>
-        ensures { self.new ≡ self.old }
-    {
-        let alloc = self.alloc;
-        let Some(chunks) = &self.chunks else {
-            return Ok(());
-        };
-        let new = shared_with(alloc, chunks.as_slice(), slice_of(&other.chunks))?;
-        let new = Chunks::new(alloc, new)?;
-        *self = SharedMap {
-            alloc,
-            count: self.len(),
-            chunks: Some(new),
-        };
-        Ok(())
     }
 
     // Gives a text a name in place, and returns whether it did. It does so only if the text comes after all

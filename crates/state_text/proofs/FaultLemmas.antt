@@ -30,7 +30,7 @@ one_more : (front line more : List ℕ) → (front ++ ended line) ++ more ≡ fr
 one_more front line more = append_assoc front (ended line) more ∙ ap (λ t. front ++ t) (append_assoc line (10 ∷ []) more)
 
 -- bytes without LF, or a line and more
-data Parts (text : List ℕ) : Type 0 where
+pub data Parts (text : List ℕ) : Type 0 where
   Plain : IsOneLine text → Parts text
   Lined : (line more : List ℕ) → IsOneLine line → text ≡ line ++ 10 ∷ more → Parts text
 
@@ -39,7 +39,7 @@ parts_more b text true is parts = (let same : b ≡ 10 = grind (arith, nat_tests
 parts_more b text false is (Plain plain) = (let apart : b ≢ 10 = grind (arith, nat_tests) in Plain (All-cons (λ x. x ≢ 10) b text apart plain))
 parts_more b text false is (Lined line more plain parts) = (let apart : b ≢ 10 = grind (arith, nat_tests) in Lined (b ∷ line) more (All-cons (λ x. x ≢ 10) b line apart plain) (ap (λ t. b ∷ t) parts))
 
-parts_of : (text : List ℕ) → Parts text
+pub parts_of : (text : List ℕ) → Parts text
 parts_of [] = Plain (All-nil (λ x. x ≢ 10))
 parts_of (b ∷ text) = parts_more b text (eqb b 10) refl (parts_of text)
 
@@ -155,15 +155,6 @@ behind_end version text rest line behind states lines so_far is is_end some =
       wrong = subst (λ f. HasWrongNext f behind ⊎ IsCut f behind) (sym whole) (wrong_behind version states behind so_far.right some (parts_of behind));
     }
 
--- what was read to its end is the text of its states
-pub ends_right : (version : Version) (text rest line behind : List ℕ) (states : States) (lines : ℕ) → IsReadSoFar version text (all_of states) lines rest → rest ≡ line ++ 10 ∷ behind → line ≡ codes "end" → behind ≡ [] → IsStateText states text
-ends_right version text rest line behind states lines so_far is is_end none =
-    of_version version states text (record {
-      right = so_far.right.right;
-      tells = so_far.right.tells;
-      spelled = so_far.parts ∙ ap (λ r. flat_map ended (told_lines version states) ++ r) (is ∙ (λ i. is_end i ++ 10 ∷ none i)) ∙ text_ends version states;
-    })
-
 begins_nothing : BeginsStateText []
 begins_nothing = record { states = []; whole = state_text Two []; rest = state_text Two []; right = inr (record { right = no_states; tells = tt; spelled = refl }); parts = refl }
 
@@ -228,9 +219,3 @@ none_at version states text before rest is lines parts (inr cut) =
 -- a state text has none
 pub none_wrong : NoneInStateText
 none_wrong states text n is wrong = (let here = in_version states text is in none_at here.version states text wrong.before wrong.rest here.is wrong.are_lines wrong.parts wrong.wrong)
-
--- a state text is read, unless memory runs out
-pub reads_only : (text : List ℕ) (result : Result States StateFault) → IfOk result (λ s. IsStateText s text) → IfErr result (TellsLine text) → (states : States) → IsStateText states text → IfOk result (λ found. found ≡ states) × IfErr result (λ fault. fault ≡ Memory)
-reads_only text (Ok found) spelled told states is = (one_value found states text spelled is, tt)
-reads_only text (Err (Line n)) spelled told states is = absurd (none_wrong states text n is told)
-reads_only text (Err Memory) spelled told states is = (tt, refl)

@@ -11,7 +11,9 @@ pub mod OrderLemmas
 pub mod PartLemmas
 pub mod PlaceLemmas
 pub mod PlainLemmas
+pub mod ReadingLemmas
 pub mod SameLemmas
+pub mod ShortLemmas
 pub mod StateLemmas
 pub mod TakingLemmas
 pub mod TellingLemmas

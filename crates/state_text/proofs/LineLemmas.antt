@@ -159,27 +159,7 @@ adds_line version old new line (Seen rest is goes adds) =
 adds_line version old new line (Offer rest is goes adds) =
     place_line version old new (Offered adds.receiver adds.name) goes.was (goes.is ∙ sym adds.told) adds.begins ∙ ap (λ l. open_lines version old ++ l ∷ []) (sym (is ∙ ap (λ r. codes "offer " ++ r) adds.spelled))
 
--- the text after a line was taken
-pub text_more : (version : Version) (text rest line behind : List ℕ) (old new : Taken) → text ≡ flat_map ended (open_lines version old) ++ rest → rest ≡ line ++ 10 ∷ behind → Adds version old line new → text ≡ flat_map ended (open_lines version new) ++ behind
-text_more version text rest line behind old new parts is adds =
-    let front = flat_map ended (open_lines version old) in
-    parts ∙ ap (λ r. front ++ r) (is ∙ sym (append_assoc line (10 ∷ []) behind)) ∙ sym (append_assoc front (ended line) behind)
-    ∙ ap (λ t. t ++ behind) (ap (λ l. front ++ l) (sym (append-nil (ended line))) ∙ sym (flat_map-append ended (open_lines version old) (line ∷ [])) ∙ ap (flat_map ended) (sym (adds_line version old new line adds)))
-
 -- the text at its end
 pub text_ends : (version : Version) (states : States) → flat_map ended (told_lines version states) ++ codes "end\n" ≡ state_text version states
 unfolding state_text
 text_ends version states = sym (flat_map-append ended (told_lines version states) (codes "end" ∷ []))
-
--- one more line was read
-pub read_more : (version : Version) (text rest line behind : List ℕ) (old new : Taken) (lines : ℕ) → IsReadSoFar version text old lines rest → rest ≡ line ++ 10 ∷ behind → Adds version old line new → IsStates new.states
-    → IsReadSoFar version text new (lines + 1) behind
-read_more version text rest line behind old new lines so_far is adds right =
-    let long : length rest ≡ length line + length (10 ∷ behind) = ap (λ (r : List ℕ). length r) is ∙ length-append line (10 ∷ behind) in
-    let more : length (open_lines version new) ≡ length (open_lines version old) + 1 = ap (λ (ls : List (List ℕ)). length ls) (adds_line version old new line adds) ∙ length_behind (open_lines version old) line in
-    record {
-      parts = text_more version text rest line behind old new so_far.parts is adds;
-      count = (let count = so_far.count in omega (arith, count, more));
-      few = (let few = so_far.few in omega (arith, few, long));
-      right = taken_more version old new line adds so_far.right right;
-    }

@@ -6,7 +6,7 @@ use Rattle.std.specs.FinMap.{entries, values}
 use Rattle.git_reftx.specs.Repository as git
 use Rattle.git_reftx.specs.Transaction.{References}
 use Rattle.fork_request.specs.Names.{IsTenantName}
-use Rattle.fork_request.specs.declared.limit.TheConstants.{MAX_LIMIT}
+use Rattle.fork_request.specs.declared.tenant_limit.TheConstants.{MAX_LIMIT}
 use Rattle.fork_model.specs.declared.limits.TheConstants.{MAX_REPOSITORIES, MAX_TENANTS}
 use Rattle.fork_model.specs.declared.limits.TheConstants.{MAX_OFFERS}
 use Rattle.state_text.specs.Adding.{AreBefore, fresh, with_offer, with_repository, with_seen}

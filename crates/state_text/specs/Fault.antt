@@ -2,7 +2,7 @@
 use Rattle.std.specs.Prelude.{◌≡◌, ◌≢◌, ℕ, ◌+◌, All, List, [], ◌∷◌, ◌++◌, ◌⊎◌, length, ⊤}
 use Rattle.std.specs.List.{AllByRecursion, flat_map}
 use Rattle.state_text.specs.declared.fault.StateFault.{StateFault}
-use Rattle.state_text.specs.declared.fault.StateFault.TheVariants.{Line, Memory}
+use Rattle.state_text.specs.declared.fault.StateFault.TheVariants.{Line, Read, Memory}
 use Rattle.state_text.specs.States.{States}
 use Rattle.git_name.specs.Text.{ended}
 use Rattle.state_text.specs.Text.{IsStateText}
@@ -50,7 +50,8 @@ OneWrongLine = (text : List ℕ) (m n : ℕ) → IsWrongLine text m → IsWrongL
 abbrev pub NoneInStateText : Type 0
 NoneInStateText = (states : States) (text : List ℕ) (number : ℕ) → IsStateText states text → IsWrongLine text number → ⊥
 
--- the fault reports the first wrong line; running out of memory reports nothing
+-- the fault reports the first wrong line; a reader that fails and running out of memory report nothing
 abbrev pub TellsLine : List ℕ → StateFault → Type 0
 TellsLine text (Line number) = IsWrongLine text number
+TellsLine text Read = ⊤
 TellsLine text Memory = ⊤

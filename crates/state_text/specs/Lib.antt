@@ -1,8 +1,11 @@
 pub mod Adding
 pub mod Fault
 pub mod Kept
+pub mod Lines
 pub mod Offer
 pub mod Place
+pub mod Reading
 pub mod States
 pub mod Taking
 pub mod Text
+pub mod Writing

@@ -10,7 +10,7 @@ use Rattle.git_name.specs.Text.{bytes_code}
 use Rattle.git_reftx.specs.Repository.{IsBranch, Repository, repository_code}
 use Rattle.git_reftx.specs.Sound.{AreSound}
 use Rattle.fork_request.specs.Names.{IsRepositoryName, IsTenantName}
-use Rattle.fork_request.specs.declared.limit.TheConstants.{MAX_LIMIT}
+use Rattle.fork_request.specs.declared.tenant_limit.TheConstants.{MAX_LIMIT}
 use Rattle.fork_model.specs.declared.limits.TheConstants.{MAX_REPOSITORIES, MAX_TENANTS}
 use Rattle.fork_model.specs.declared.limits.TheConstants.{MAX_OFFERS}
 use Rattle.state_text.specs.Offer.{Offer, offer_code, words_of_offer}

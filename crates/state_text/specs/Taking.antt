@@ -189,5 +189,4 @@ fault_of_offer offering.Memory = Memory
 pub record IsReadSoFar (version : Version) (text : List ℕ) (taken : Taken) (lines : ℕ) (rest : List ℕ) : Type 0 where
   pub parts : text ≡ flat_map ended (open_lines version taken) ++ rest
   pub count : lines ≡ length (open_lines version taken)
-  pub few : lines + length rest ≤ length text
   pub right : IsRightSoFar version taken

@@ -30,6 +30,9 @@ pub enum StateFault {
     /// The text is not a state text; this is its first wrong line, counted from 1.
     #[error("line {0} is malformed")]
     Line(u64),
+    /// The reader failed.
+    #[error("the text could not be read")]
+    Read,
     #[error("no memory")]
     Memory,
 }

@@ -4,7 +4,7 @@ ghost use Rattle.hex.specs.Hex.{encode_lower};
 ghost use Rattle.git_name.specs.Name.{IsName};
 ghost use Rattle.git_refname.specs.Rule.{IsRefName};
 ghost use Rattle.fork_request.specs.Names.{IsRepositoryName, IsTenantName};
-ghost use Rattle.fork_request.specs.declared.limit.TheConstants.{MAX_LIMIT};
+ghost use Rattle.fork_request.specs.declared.tenant_limit.TheConstants.{MAX_LIMIT};
 ghost use Rattle.git_reftx.specs.Repository.{IsBranch};
 ghost use Rattle.state_text.specs.Adding.{fresh};
 ghost use Rattle.state_text.specs.Offer.{offer_words};

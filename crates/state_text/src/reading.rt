@@ -1,63 +1,68 @@
-ghost use Rattle.std.specs.Prelude.{◌≡◌, ◌↔◌, IsTrue, IfOk, IfErr, false, codes};
+ghost use Rattle.std.specs.Prelude.{◌≡◌, ◌+◌, ◌↔◌, IsTrue, IfOk, IfErr, IfSome, Option, List, ℕ, false, codes};
 ghost use Rattle.state_text.specs.Fault.{TellsLine};
+ghost use Rattle.state_text.specs.Lines.{IsReadTo};
+ghost use Rattle.state_text.specs.Reading.{IsNoWrongLine, ReadsText};
 ghost use Rattle.state_text.specs.States as value;
 ghost use Rattle.state_text.specs.Text.{IsStateText};
 
 use crate::fault::StateFault;
 use crate::line_fault::LineFault;
+use crate::lines::Lines;
 use crate::sharing::share_before;
 use crate::states::States;
 use crate::taking::take_line;
 use crate::version::Version;
-use git_name::split_once;
+use git_name::Name;
 use std::alloc::Global;
+use std::io::Read;
 
-/// Reads the states from a text of either version. It reads the whole text. Its time is linear in the text's length,
-/// plus a few lookups in a map for each reference.
-pub fn read(alloc: Global, text: &[u8]) -> Result<States, StateFault>
+/// Reads the states from a text of either version, and the SHA-256 of the text. It reads the whole text, in pieces of some
+/// 16 KiB, which need not be buffered. Its time is linear in the text's length, plus a few lookups in a map for each
+/// reference.
+pub fn read<R: Read>(alloc: Global, reader: &mut R) -> Result<(States, Name), StateFault>
     // The text spells what is read.
-    ensures found { IfOk result (λ states. IsStateText states text.now) }
-    // A state text is read, unless memory runs out.
-    ensures only { (states : value.States) → IsStateText states text.now → IfOk result (λ found. found ≡ states) × IfErr result (λ fault. fault ≡ StateFault.Memory) }
+    ensures found { IfOk result (λ read. ReadsText (R.remaining reader.old) (R.remaining reader.new) read.0 read.1) }
+    // A state text is read, unless the reader fails or memory runs out.
+    ensures only { IfSome (R.remaining reader.old) (λ text. (states : value.States) → IsStateText states text → IfOk result (λ read. read.0 ≡ states) × IfErr result IsNoWrongLine) }
     // The fault gives the wrong line.
-    ensures exact { IfErr result (TellsLine text.now) }
+    ensures exact { IfSome (R.remaining reader.old) (λ text. IfErr result (TellsLine text)) }
 {
-    read_lines(alloc, text)
+    read_lines(alloc, reader)
 }
 
 // The states, line by line.
-fn read_lines(alloc: Global, text: &[u8]) -> Result<States, StateFault>
-    ensures found { IfOk result (λ states. IsStateText states text.now) }
-    ensures exact { IfErr result (TellsLine text.now) }
+fn read_lines<R: Read>(alloc: Global, reader: &mut R) -> Result<(States, Name), StateFault>
+    ensures found { IfOk result (λ read. ReadsText (R.remaining reader.old) (R.remaining reader.new) read.0 read.1) }
+    ensures exact { IfSome (R.remaining reader.old) (λ text. IfErr result (TellsLine text)) }
 {
-    let Some((first, mut rest)) = split_once(text, b'\n') else {
+    let mut lines = Lines::new(alloc);
+    if !lines.next(alloc, reader)? {
         return Err(StateFault::Line(1));
-    };
-    let Some(version) = Version::of_line(first) else {
+    }
+    let Some(version) = Version::of_line(lines.line.as_slice()) else {
         return Err(StateFault::Line(1));
     };
     let mut states = States::new(alloc);
     // Whether the next line must give a HEAD.
     let mut awaits = false;
-    // How many lines were read.
-    let mut lines = 1;
-    'lines: while let Some((line, behind)) = split_once(rest, b'\n') {
-        lines += 1;
-        share_before(&mut states, line);
-        if is_end(line, awaits) {
-            if behind.len() > 0 {
-                return Err(StateFault::Line(lines + 1));
-            }
-            return Ok(states);
+    'lines: for number in 2..u64::MAX {
+        if !lines.next(alloc, reader)? {
+            return Err(StateFault::Line(number));
         }
-        match take_line(alloc, version, &mut states, awaits, line) {
+        share_before(&mut states, lines.line.as_slice());
+        if is_end(lines.line.as_slice(), awaits) {
+            let Some(name) = lines.end(alloc, reader)? else {
+                return Err(StateFault::Line(number + 1));
+            };
+            return Ok((states, name));
+        }
+        match take_line(alloc, version, &mut states, awaits, lines.line.as_slice()) {
             Ok(more) => awaits = more,
-            Err(LineFault::Wrong) => return Err(StateFault::Line(lines)),
+            Err(LineFault::Wrong) => return Err(StateFault::Line(number)),
             Err(LineFault::Memory) => return Err(StateFault::Memory),
         }
-        rest = behind;
     }
-    Err(StateFault::Line(lines + 1))
+    Err(StateFault::Read)
 }
 
 // Whether the line is the last one, which cannot come while a HEAD is awaited.

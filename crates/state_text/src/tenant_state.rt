@@ -1,6 +1,6 @@
 ghost use Rattle.std.specs.Prelude.{◌≡◌, ◌≢◌, ◌≤◌, ◌<◌, OnOk, OnErr, IfErr, IfSome, IfNone, length, map};
 ghost use Rattle.git_reftx.specs.Repository as git;
-ghost use Rattle.fork_request.specs.declared.limit.TheConstants.{MAX_LIMIT};
+ghost use Rattle.fork_request.specs.declared.tenant_limit.TheConstants.{MAX_LIMIT};
 ghost use Rattle.fork_model.specs.declared.limits.TheConstants.{MAX_REPOSITORIES};
 ghost use Rattle.state_text.specs.Adding.{TellsAdd, TellsOffer, fresh, with_offer, with_repository, with_seen};
 ghost use Rattle.state_text.specs.Place.{IsLast, with_at};

@@ -1,21 +1,27 @@
 ghost use Rattle.std.specs.Prelude.{◌≡◌, ◌++◌, OnOk, IfOk, codes, map};
 ghost use Rattle.std.specs.FinMap.{entries};
+ghost use Rattle.std.specs.Io.KnownBytes.{Appends};
 ghost use Rattle.std.specs.List.{flat_map};
 ghost use Rattle.hex.specs.Hex.{encode_lower};
 ghost use Rattle.git_refname.specs.Namespace.{expanded};
 ghost use Rattle.git_name.specs.Text.{ended};
+ghost use Rattle.sha2.specs.Sha256.{sha256};
 ghost use Rattle.state_text.specs.Text.{IsStateText2, inner_lines, offer_line, offer_lines, repository_line, repository_lines, seen_line, state_text, tenant_line, tenant_lines};
+ghost use Rattle.state_text.specs.Writing.{Puts};
 ghost use Rattle.state_text.specs.declared.version.Version.TheVariants.{Two};
 
 use crate::offer::Offer;
 use crate::states::States;
 use crate::tenant_state::TenantState;
+use crate::waiting::{Spelled, Waiting};
 use fork_request::{RepositoryName, TenantName};
 use git_name::Name;
 use git_refname::expand;
 use git_reftx::{Refs, Repository};
 use itoa::Buffer;
 use std::alloc::{AllocError, Global};
+use std::io;
+use std::io::Write;
 
 // Writes the digits of a name.
 fn put_name(out: &mut Vec<u8>, name: &Name) -> Result<(), AllocError>
@@ -58,32 +64,15 @@ fn put_reference(
     Ok(())
 }
 
-// Writes a line for each reference.
-fn put_references(out: &mut Vec<u8>, prefix: &[u8], references: &Refs) -> Result<(), AllocError>
-    ensures { OnOk result (out.new.items ≡ out.old.items ++ flat_map ended (map (λ reference. codes "ref " ++ encode_lower reference.1 ++ codes " " ++ prefix.now ++ reference.0) (entries references.now))) }
+// Writes the line of a HEAD, given its expanded namespace.
+fn put_head(out: &mut Vec<u8>, prefix: &[u8], head: &[u8]) -> Result<(), AllocError>
+    ensures { OnOk result (out.new.items ≡ out.old.items ++ ended (codes "head " ++ prefix.now ++ head.now)) }
 {
-    for (name, target) in references.iter() {
-        put_reference(out, prefix, name, target)?;
-    }
-    Ok(())
-}
-
-// Writes the lines of a repository's HEAD and references.
-fn put_inner(
-    alloc: Global,
-    out: &mut Vec<u8>,
-    tenant: &TenantName,
-    name: &RepositoryName,
-    repository: &Repository,
-) -> Result<(), AllocError>
-    ensures { OnOk result (out.new.items ≡ out.old.items ++ flat_map ended (inner_lines Two tenant.now name.now repository.now)) }
-{
-    let prefix = expand(alloc, tenant.as_bytes(), name.as_bytes())?;
     out.extend_from_slice(b"head ")?;
-    out.extend_from_slice(prefix.as_slice())?;
-    out.extend_from_slice(repository.head().name().as_bytes())?;
+    out.extend_from_slice(prefix)?;
+    out.extend_from_slice(head)?;
     out.extend_from_slice(b"\n")?;
-    put_references(out, prefix.as_slice(), repository.references())
+    Ok(())
 }
 
 // Writes the first line of a repository.
@@ -96,44 +85,13 @@ fn put_repository_line(out: &mut Vec<u8>, name: &RepositoryName) -> Result<(), A
     Ok(())
 }
 
-// Writes the lines of a repository.
-fn put_repository(
-    alloc: Global,
-    out: &mut Vec<u8>,
-    tenant: &TenantName,
-    name: &RepositoryName,
-    repository: &Repository,
-) -> Result<(), AllocError>
-    ensures { OnOk result (out.new.items ≡ out.old.items ++ flat_map ended (repository_lines Two tenant.now (name.now, repository.now))) }
+// Writes the line of an object that is seen.
+fn put_seen_line(out: &mut Vec<u8>, name: &Name) -> Result<(), AllocError>
+    ensures { OnOk result (out.new.items ≡ out.old.items ++ ended (seen_line name.now)) }
 {
-    put_repository_line(out, name)?;
-    put_inner(alloc, out, tenant, name, repository)
-}
-
-// Writes the lines of each repository.
-fn put_repositories(
-    alloc: Global,
-    out: &mut Vec<u8>,
-    tenant: &TenantName,
-    repositories: &[(RepositoryName, Repository)],
-) -> Result<(), AllocError>
-    ensures { OnOk result (out.new.items ≡ out.old.items ++ flat_map ended (flat_map (repository_lines Two tenant.now) repositories.now)) }
-{
-    for (name, repository) in repositories {
-        put_repository(alloc, out, tenant, name, repository)?;
-    }
-    Ok(())
-}
-
-// Writes a line for each name.
-fn put_seen(out: &mut Vec<u8>, names: &[Name]) -> Result<(), AllocError>
-    ensures { OnOk result (out.new.items ≡ out.old.items ++ flat_map ended (map seen_line names.now)) }
-{
-    for name in names {
-        out.extend_from_slice(b"see ")?;
-        put_name(out, name)?;
-        out.extend_from_slice(b"\n")?;
-    }
+    out.extend_from_slice(b"see ")?;
+    put_name(out, name)?;
+    out.extend_from_slice(b"\n")?;
     Ok(())
 }
 
@@ -153,62 +111,160 @@ fn put_offer_line(
     Ok(())
 }
 
-// Writes the lines of an offer.
-fn put_offer(
+// Writes a line for each reference.
+fn put_references<W: Write>(
+    writer: &mut W,
+    waiting: &mut Waiting,
+    prefix: &[u8],
+    references: &Refs,
+) -> io::Result<()>
+    ensures { OnOk result (Puts (W.contents writer.old) (W.contents writer.new) waiting.old waiting.new (flat_map ended (map (λ reference. codes "ref " ++ encode_lower reference.1 ++ codes " " ++ prefix.now ++ reference.0) (entries references.now)))) }
+{
+    for (name, target) in references.iter() {
+        put_reference(&mut waiting.lines, prefix, name, target)?;
+        waiting.settle(writer)?;
+    }
+    Ok(())
+}
+
+// Writes the lines of a repository's HEAD and references.
+fn put_inner<W: Write>(
     alloc: Global,
-    out: &mut Vec<u8>,
+    writer: &mut W,
+    waiting: &mut Waiting,
+    tenant: &TenantName,
+    name: &RepositoryName,
+    repository: &Repository,
+) -> io::Result<()>
+    ensures { OnOk result (Puts (W.contents writer.old) (W.contents writer.new) waiting.old waiting.new (flat_map ended (inner_lines Two tenant.now name.now repository.now))) }
+{
+    let prefix = expand(alloc, tenant.as_bytes(), name.as_bytes())?;
+    let head = repository.head().name().as_bytes();
+    put_head(&mut waiting.lines, prefix.as_slice(), head)?;
+    waiting.settle(writer)?;
+    put_references(writer, waiting, prefix.as_slice(), repository.references())
+}
+
+// Writes the lines of a repository.
+fn put_repository<W: Write>(
+    alloc: Global,
+    writer: &mut W,
+    waiting: &mut Waiting,
+    tenant: &TenantName,
+    name: &RepositoryName,
+    repository: &Repository,
+) -> io::Result<()>
+    ensures { OnOk result (Puts (W.contents writer.old) (W.contents writer.new) waiting.old waiting.new (flat_map ended (repository_lines Two tenant.now (name.now, repository.now)))) }
+{
+    put_repository_line(&mut waiting.lines, name)?;
+    put_inner(alloc, writer, waiting, tenant, name, repository)
+}
+
+// Writes the lines of each repository.
+fn put_repositories<W: Write>(
+    alloc: Global,
+    writer: &mut W,
+    waiting: &mut Waiting,
+    tenant: &TenantName,
+    repositories: &[(RepositoryName, Repository)],
+) -> io::Result<()>
+    ensures { OnOk result (Puts (W.contents writer.old) (W.contents writer.new) waiting.old waiting.new (flat_map ended (flat_map (repository_lines Two tenant.now) repositories.now))) }
+{
+    for (name, repository) in repositories {
+        put_repository(alloc, writer, waiting, tenant, name, repository)?;
+    }
+    Ok(())
+}
+
+// Writes a line for each name.
+fn put_seen<W: Write>(writer: &mut W, waiting: &mut Waiting, names: &[Name]) -> io::Result<()>
+    ensures { OnOk result (Puts (W.contents writer.old) (W.contents writer.new) waiting.old waiting.new (flat_map ended (map seen_line names.now))) }
+{
+    for name in names {
+        put_seen_line(&mut waiting.lines, name)?;
+        waiting.settle(writer)?;
+    }
+    Ok(())
+}
+
+// Writes the lines of an offer.
+fn put_offer<W: Write>(
+    alloc: Global,
+    writer: &mut W,
+    waiting: &mut Waiting,
     tenant: &TenantName,
     offer: &Offer,
-) -> Result<(), AllocError>
-    ensures { OnOk result (out.new.items ≡ out.old.items ++ flat_map ended (offer_lines Two tenant.now offer.now)) }
+) -> io::Result<()>
+    ensures { OnOk result (Puts (W.contents writer.old) (W.contents writer.new) waiting.old waiting.new (flat_map ended (offer_lines Two tenant.now offer.now))) }
 {
-    put_offer_line(out, offer.receiver(), offer.name())?;
-    put_inner(alloc, out, tenant, offer.name(), offer.repository())
+    put_offer_line(&mut waiting.lines, offer.receiver(), offer.name())?;
+    put_inner(
+        alloc,
+        writer,
+        waiting,
+        tenant,
+        offer.name(),
+        offer.repository(),
+    )
 }
 
 // Writes the lines of each offer.
-fn put_offers(
+fn put_offers<W: Write>(
     alloc: Global,
-    out: &mut Vec<u8>,
+    writer: &mut W,
+    waiting: &mut Waiting,
     tenant: &TenantName,
     offers: &[Offer],
-) -> Result<(), AllocError>
-    ensures { OnOk result (out.new.items ≡ out.old.items ++ flat_map ended (flat_map (offer_lines Two tenant.now) offers.now)) }
+) -> io::Result<()>
+    ensures { OnOk result (Puts (W.contents writer.old) (W.contents writer.new) waiting.old waiting.new (flat_map ended (flat_map (offer_lines Two tenant.now) offers.now))) }
 {
     for offer in offers {
-        put_offer(alloc, out, tenant, offer)?;
+        put_offer(alloc, writer, waiting, tenant, offer)?;
     }
     Ok(())
 }
 
 // Writes the lines of a tenant.
-fn put_tenant(alloc: Global, out: &mut Vec<u8>, tenant: &TenantState) -> Result<(), AllocError>
-    ensures { OnOk result (out.new.items ≡ out.old.items ++ flat_map ended (tenant_lines Two tenant.now)) }
+fn put_tenant<W: Write>(
+    alloc: Global,
+    writer: &mut W,
+    waiting: &mut Waiting,
+    tenant: &TenantState,
+) -> io::Result<()>
+    ensures { OnOk result (Puts (W.contents writer.old) (W.contents writer.new) waiting.old waiting.new (flat_map ended (tenant_lines Two tenant.now))) }
 {
-    put_tenant_line(out, tenant.name(), tenant.limit())?;
-    put_repositories(alloc, out, tenant.name(), tenant.repositories())?;
-    put_seen(out, tenant.seen())?;
-    put_offers(alloc, out, tenant.name(), tenant.offers())
+    put_tenant_line(&mut waiting.lines, tenant.name(), tenant.limit())?;
+    put_repositories(alloc, writer, waiting, tenant.name(), tenant.repositories())?;
+    put_seen(writer, waiting, tenant.seen())?;
+    put_offers(alloc, writer, waiting, tenant.name(), tenant.offers())
 }
 
 // Writes the lines of each tenant.
-fn put_tenants(alloc: Global, out: &mut Vec<u8>, tenants: &[TenantState]) -> Result<(), AllocError>
-    ensures { OnOk result (out.new.items ≡ out.old.items ++ flat_map ended (flat_map (tenant_lines Two) tenants.now)) }
+fn put_tenants<W: Write>(
+    alloc: Global,
+    writer: &mut W,
+    waiting: &mut Waiting,
+    tenants: &[TenantState],
+) -> io::Result<()>
+    ensures { OnOk result (Puts (W.contents writer.old) (W.contents writer.new) waiting.old waiting.new (flat_map ended (flat_map (tenant_lines Two) tenants.now))) }
 {
     for tenant in tenants {
-        put_tenant(alloc, out, tenant)?;
+        put_tenant(alloc, writer, waiting, tenant)?;
     }
     Ok(())
 }
 
-/// Writes the text of the states in version 2, in time linear in its length.
-pub fn write(alloc: Global, states: &States) -> Result<Vec<u8>, AllocError>
-    ensures value { IfOk result (λ text. text.items ≡ state_text Two states.now) }
-    ensures told { IfOk result (λ text. IsStateText2 states.now text.items) }
+/// Writes the text of the states in version 2, in pieces of some 64 KiB and in time linear in its length. After an `Err`
+/// a front of it may be written.
+pub fn write<W: Write>(alloc: Global, states: &States, writer: &mut W) -> io::Result<Spelled>
+    ensures text { OnOk result (Appends (W.contents writer.old) (W.contents writer.new) (state_text Two states.now)) }
+    ensures name { IfOk result (λ spelled. spelled.name ≡ sha256 (state_text Two states.now)) }
+    ensures told { IsStateText2 states.now (state_text Two states.now) }
 {
-    let mut out = Vec::new(alloc);
-    out.extend_from_slice(b"forkhost state 2\n")?;
-    put_tenants(alloc, &mut out, states.as_slice())?;
-    out.extend_from_slice(b"end\n")?;
-    Ok(out)
+    let tenants = states.as_slice();
+    let mut waiting = Waiting::new(alloc)?;
+    waiting.lines.extend_from_slice(b"forkhost state 2\n")?;
+    put_tenants(alloc, writer, &mut waiting, tenants)?;
+    waiting.lines.extend_from_slice(b"end\n")?;
+    waiting.end(writer)
 }

@@ -9,7 +9,7 @@ use crate::tenant::Tenant;
 use fork_ledger::Vault;
 use fork_request::TenantName;
 use loose_store::LooseFiles;
-use push_stream::Incoming;
+use push_stream::OpenUpload;
 use state_text::TenantState;
 use std::alloc::{AllocError, Global};
 
@@ -43,7 +43,7 @@ impl Tenant {
     }
 
     // The upload, if one is open.
-    pub(crate) fn upload(&self) -> Option<&Incoming>
+    pub(crate) fn upload(&self) -> Option<&OpenUpload>
         ensures { option_map (λ upload. upload.now.brief) result ≡ self.now.upload }
     {
         match &self.upload {

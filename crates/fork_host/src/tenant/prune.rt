@@ -28,6 +28,8 @@ impl Tenant {
         let Ok(roots) = self.roots(alloc) else {
             return Reply::Failed(HostFault::Memory);
         };
+        // Read for its range: the use of what is seen has 64 bits.
+        let _limit = self.limit;
         keep_reached(alloc, own, roots.as_slice())
     }
 

@@ -24,7 +24,7 @@ use crate::tenant::Tenant;
 use crate::uploading::feed;
 use fork_request::{Refusal, Reply, RepositoryName};
 use loose_store::LooseFiles;
-use push_stream::{Incoming, read_body};
+use push_stream::{OpenUpload, read_body};
 use std::alloc::Global;
 
 impl Tenant {
@@ -76,7 +76,7 @@ impl Tenant {
         if let Some(upload) = &mut self.upload {
             return feed(alloc, own, upload, body);
         }
-        let mut upload = Incoming::new(alloc);
+        let mut upload = OpenUpload::new(alloc);
         let reply = feed(alloc, own, &mut upload, body);
         if !is_done(&reply) {
             return reply;

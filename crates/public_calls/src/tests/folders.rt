@@ -90,3 +90,62 @@ fn a_folder_over_a_device_keeps_files(rt: HostRuntime) -> Result<(), Fail> {
     assert!(rt; is_kept?);
     Ok(())
 }
+
+// Whether no sync succeeds once one failed in a put, of the move of the swept file, and no put of its name either.
+fn fails_to_sync(alloc: Global, folder: &mut Folder<Memory>) -> Result<bool, Fail> {
+    folder.put(alloc, hello(), b"some")?;
+    folder.sync(alloc)?;
+    folder.remove(alloc, hello())?;
+    let is_refused = folder.put(alloc, hello(), b"more") == Err(FileFault::Device);
+    let is_refused_again = folder.put(alloc, hello(), b"more") == Err(FileFault::Device);
+    let has_failed = folder.sync(alloc) == Err(FileFault::Device);
+    let is_ended = folder.sync(alloc) == Err(FileFault::Device);
+    Ok(is_refused && is_refused_again && has_failed && is_ended)
+}
+
+#[test]
+fn a_failed_sync_of_a_move_fails_each_later_sync(rt: HostRuntime) -> Result<(), Fail> {
+    let mut device = Memory::new(rt.alloc());
+    device.fail_after(266);
+    let mut folder = Folder::over(device, rt.alloc(), Hashing::drawn(&rt)?)?;
+    let has_failed = fails_to_sync(rt.alloc(), &mut folder);
+    drop(folder);
+    assert!(rt; has_failed?);
+    Ok(())
+}
+
+// Whether a swept file stays, since its removal fails, after which a file of its name is put again, synced and removed.
+fn sweeps_twice(alloc: Global, folder: &mut Folder<Memory>) -> Result<bool, FileFault> {
+    folder.put(alloc, hello(), b"first")?;
+    folder.remove(alloc, hello())?;
+    let is_refused = folder.forget_removed(alloc) == Err(FileFault::Device);
+    let is_still_told = folder.has_removed();
+    folder.put(alloc, hello(), b"second")?;
+    folder.sync(alloc)?;
+    folder.remove(alloc, hello())?;
+    Ok(is_refused && is_still_told)
+}
+
+// Whether a folder shows these bytes under the name.
+fn has(alloc: Global, folder: &mut Folder<Memory>, bytes: &[u8]) -> bool {
+    match folder.get(alloc, hello()) {
+        Ok(Some(found)) => found.as_slice() == bytes,
+        _ => false,
+    }
+}
+
+// The last removal may be lost with the power, so that the state names the file that was synced.
+#[test]
+fn a_synced_file_is_swept_over_an_older_one(rt: HostRuntime) -> Result<(), Fail> {
+    let hashing = Hashing::drawn(&rt)?;
+    let mut device = Memory::new(rt.alloc());
+    device.fail_after(263);
+    let mut folder = Folder::over(device, rt.alloc(), hashing)?;
+    let is_swept = sweeps_twice(rt.alloc(), &mut folder) == Ok(true);
+    let mut folder = Folder::over(folder.into_device(), rt.alloc(), hashing)?;
+    let is_back = has(rt.alloc(), &mut folder, b"second");
+    drop(folder);
+    assert!(rt; is_swept);
+    assert!(rt; is_back);
+    Ok(())
+}

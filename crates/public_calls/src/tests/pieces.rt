@@ -1,5 +1,5 @@
 use git_name::{Kind, Sealed, seal};
-use push_stream::{BodyError, Incoming, Sent, StreamFault, write_record};
+use push_stream::{BodyError, OpenUpload, Sent, StreamFault, write_record};
 use std::alloc::{AllocError, Global};
 use std::test::Fail;
 
@@ -20,7 +20,7 @@ fn forty(alloc: Global) -> Result<Vec<u8>, AllocError> {
 }
 
 // How many objects a piece gives, first looked at and then taken; 0 if there is no room for it.
-fn fed(alloc: Global, upload: &mut Incoming, piece: &[u8]) -> Result<usize, AllocError> {
+fn fed(alloc: Global, upload: &mut OpenUpload, piece: &[u8]) -> Result<usize, AllocError> {
     if upload.count() > 1_048_576 || piece.len() > 1_048_576 {
         return Ok(0);
     }
@@ -33,7 +33,7 @@ fn fed(alloc: Global, upload: &mut Incoming, piece: &[u8]) -> Result<usize, Allo
 }
 
 // How many objects a stream gave, and how many names it has at its end.
-fn ended(alloc: Global, upload: &Incoming, objects: usize) -> Result<(usize, usize), AllocError> {
+fn ended(alloc: Global, upload: &OpenUpload, objects: usize) -> Result<(usize, usize), AllocError> {
     match upload.finish(alloc) {
         Ok(brief) => Ok((objects, brief.names.len())),
         Err(_) => Ok((objects, 1000)),
@@ -42,7 +42,7 @@ fn ended(alloc: Global, upload: &Incoming, objects: usize) -> Result<(usize, usi
 
 // As `ended`, for the stream above in a piece of `first` bytes and then pieces of `size` bytes.
 fn cut(alloc: Global, first: usize, size: usize) -> Result<(usize, usize), AllocError> {
-    let mut upload = Incoming::new(alloc);
+    let mut upload = OpenUpload::new(alloc);
     let at = first.min(STREAM.len());
     let mut objects = fed(alloc, &mut upload, &STREAM[..at])?;
     for piece in STREAM[at..].chunks(size.max(1)) {
@@ -63,7 +63,7 @@ fn a_stream_gives_its_objects_once_wherever_it_is_cut(rt: HostRuntime) -> Result
 
 // As `ended`, for a stream in pieces of random length, up to 4,096 bytes.
 fn chopped(alloc: Global, bytes: &[u8], seed: u32) -> Result<(usize, usize), AllocError> {
-    let mut upload = Incoming::new(alloc);
+    let mut upload = OpenUpload::new(alloc);
     let mut objects = 0usize;
     let mut chance = seed;
     let mut rest = bytes;
@@ -97,7 +97,7 @@ fn is_sent(sent: &Sent, kind: Kind, length: u64) -> bool {
 
 #[test]
 fn what_was_sent_is_told_of_an_upload(rt: HostRuntime) -> Result<(), Fail> {
-    let mut upload = Incoming::new(rt.alloc());
+    let mut upload = OpenUpload::new(rt.alloc());
     let was_empty = upload.sent().is_empty();
     let objects = fed(rt.alloc(), &mut upload, STREAM);
     let is_told = match upload.sent() {
@@ -122,7 +122,7 @@ fn add_records(alloc: Global, records: &mut Vec<u8>, objects: &[Sealed]) -> Resu
 // or there was no room.
 fn gathered(
     alloc: Global,
-    upload: &mut Incoming,
+    upload: &mut OpenUpload,
     bytes: &[u8],
     size: usize,
 ) -> Result<Vec<u8>, AllocError> {
@@ -141,7 +141,7 @@ fn gathered(
 }
 
 // The bytes that open an upload again, given the records that came of it.
-fn opened(alloc: Global, upload: &Incoming, records: &[u8]) -> Result<Vec<u8>, AllocError> {
+fn opened(alloc: Global, upload: &OpenUpload, records: &[u8]) -> Result<Vec<u8>, AllocError> {
     let parts = upload.again();
     let mut opened = parts.header.to_vec(alloc)?;
     opened.extend_from_slice(records)?;
@@ -154,7 +154,7 @@ fn opened(alloc: Global, upload: &Incoming, records: &[u8]) -> Result<Vec<u8>, A
 
 // As `opened`, for an upload that received these bytes in pieces of `size` bytes.
 fn again(alloc: Global, bytes: &[u8], size: usize) -> Result<Vec<u8>, AllocError> {
-    let mut upload = Incoming::new(alloc);
+    let mut upload = OpenUpload::new(alloc);
     let records = gathered(alloc, &mut upload, bytes, size)?;
     opened(alloc, &upload, records.as_slice())
 }
@@ -179,7 +179,7 @@ fn an_upload_is_opened_again_by_the_bytes_that_came(rt: HostRuntime) -> Result<(
 
 // Whether an upload of these bytes gives no objects, and ends with a wrong name.
 fn is_broken(alloc: Global, bytes: &[u8]) -> Result<bool, AllocError> {
-    let mut upload = Incoming::new(alloc);
+    let mut upload = OpenUpload::new(alloc);
     let objects = fed(alloc, &mut upload, bytes)?;
     let is_wrong = match upload.finish(alloc) {
         Err(BodyError::Fault(StreamFault::WrongName(_))) => true,

@@ -1,10 +1,10 @@
-use Rattle.std.proofs.Common.{ap, ◌≡◌, ◌∙◌, sym, Option, Some, codes, unwrap_or}
+use Rattle.std.proofs.Common.{ap, ◌≡◌, ◌∙◌, sym, subst, List, Option, Some, codes, unwrap_or}
 use Rattle.std.proofs.lemmas.Result.{err_from_is_err_and}
-use Rattle.clap.specs.Words.{Text, subcommand_rows_of, rows_of, found_of}
+use Rattle.clap.specs.Words.{Row, Text, subcommand_rows_of, rows_of, found_of}
 use Rattle.clap.proofs.WalkLemmas.{first_value-rows}
-use Rattle.fork_command.specs.Command.{BadOfAdd, BadOfLimit, BadOfRemove, BadOfRun, BadOfServe, ToAdd, ToCheck, ToHash, ToLimit, ToRemove, ToRun, ToServe, ToUpgrade}
+use Rattle.fork_command.specs.Command.{Asks, BadOfAdd, BadOfLimit, BadOfRemove, BadOfRun, BadOfServe, ToAdd, ToCheck, ToHash, ToLimit, ToRemove, ToRepack, ToRun, ToServe, ToUpgrade}
 use Rattle.fork_command.proofs.AskedLemmas.{grant_refused, grants_refused, tenant_refused}
-use Rattle.fork_command.proofs.MetLemmas.{add_met, both_halves, check_met, limit_met, none_met, remove_met, text_is, upgrade_met}
+use Rattle.fork_command.proofs.MetLemmas.{add_met, both_halves, check_met, limit_met, none_met, remove_met, repack_met, text_is, upgrade_met}
 use Rattle.fork_command.proofs.ServeLemmas.{absent}
 use Rattle.fork_command.proofs.command.asked.Goals as goal
 
@@ -18,6 +18,7 @@ unreachable-requires c = elim c.requires.met [
   | ToAdd rows is words ↦ none_met _ _ _ _ c.in_default.ensures.name is
   | ToLimit rows is words ↦ none_met _ _ _ _ c.in_default.ensures.name is
   | ToRemove rows is words ↦ none_met _ _ _ _ c.in_default.ensures.name is
+  | ToRepack rows is some ↦ none_met _ _ _ _ c.in_default.ensures.name is
 ]
 
 pub returns-in_default-kind_given-clause-none : goal.returns-in_default-kind_given-clause-none
@@ -147,3 +148,17 @@ returns-then-eq-8-clause-some c =
     let met : subcommand_rows_of c.args.matches.now ≡ Some (c.in-Some.name.now, rows_of (found_of c.in-Some.matches.now)) = both_halves _ _ _ _ _ c.in-Some.ensures.name c.in-Some.ensures.rows in
     let here = met ∙ ap (λ (t : Text). Some (t, rows_of (found_of c.in-Some.matches.now))) name in
     ((rows_of (found_of c.in-Some.matches.now), here, c.in_ok-dir-3.ensures.dir, c.in_ok-dir-3.ensures.word), c.in_ok-dir-3.ensures.right)
+
+pub repacking-requires : goal.repacking-requires
+repacking-requires c =
+    let name = text_is _ _ _ c.eq-9.ensures c.if-eq-9.true in
+    let met : subcommand_rows_of c.args.matches.now ≡ Some (c.in-Some.name.now, rows_of (found_of c.in-Some.matches.now)) = both_halves _ _ _ _ _ c.in-Some.ensures.name c.in-Some.ensures.rows in
+    let here = met ∙ ap (λ (t : Text). Some (t, rows_of (found_of c.in-Some.matches.now))) name in
+    record { dir = repack_met _ _ c.requires.met here }
+
+pub returns-then-eq-9-clause-some : goal.returns-then-eq-9-clause-some
+returns-then-eq-9-clause-some c =
+    let name = text_is _ _ _ c.eq-9.ensures c.if-eq-9.true in
+    let met : subcommand_rows_of c.args.matches.now ≡ Some (c.in-Some.name.now, rows_of (found_of c.in-Some.matches.now)) = both_halves _ _ _ _ _ c.in-Some.ensures.name c.in-Some.ensures.rows in
+    let here = met ∙ ap (λ (t : Text). Some (t, rows_of (found_of c.in-Some.matches.now))) name in
+    subst (λ (m : Option (Text × List Row)). Asks m c.repacking.result) (sym here) c.repacking.ensures

@@ -1,7 +1,7 @@
 use Rattle.std.proofs.Common.{ap, ap₂, ◌≡◌, ◌∙◌}
 use Rattle.std.proofs.lemmas.Result.{IfOk-weaker}
 use Rattle.clap.specs.Words.{App, app_of, with_subcommand}
-use Rattle.fork_command.specs.Table.{add_tenant_app, serving_app, set_limit_app, table_app}
+use Rattle.fork_command.specs.Table.{add_tenant_app, remove_tenant_app, serving_app, set_limit_app, table_app}
 use Rattle.fork_command.proofs.table.table.Goals as goal
 
 pub returns : goal.returns
@@ -11,6 +11,8 @@ returns c =
     c.in_ok-subcommand.ensures.shape c.in_ok-add.ensures.local ∙ ap₂ with_subcommand c.in_ok-serving.ensures.table (ap (λ (a : App). a.top) c.in_ok-add.ensures.table) in
     let second_is : app_of c.in_ok-subcommand-2.field-0 ≡ with_subcommand (with_subcommand serving_app add_tenant_app.top) set_limit_app.top =
     c.in_ok-subcommand-2.ensures.shape c.in_ok-limit.ensures.local ∙ ap₂ with_subcommand first_is (ap (λ (a : App). a.top) c.in_ok-limit.ensures.table) in
+    let third_is : app_of c.in_ok-subcommand-3.field-0 ≡ with_subcommand (with_subcommand (with_subcommand serving_app add_tenant_app.top) set_limit_app.top) remove_tenant_app.top =
+    c.in_ok-subcommand-3.ensures.shape c.in_ok-remove.ensures.local ∙ ap₂ with_subcommand second_is (ap (λ (a : App). a.top) c.in_ok-remove.ensures.table) in
     record {
-      table = IfOk-weaker c.subcommand-3.result _ _ (λ r h. h.shape c.in_ok-remove.ensures.local ∙ ap₂ with_subcommand second_is (ap (λ (a : App). a.top) c.in_ok-remove.ensures.table)) c.subcommand-3.ensures;
+      table = IfOk-weaker c.subcommand-4.result _ _ (λ r h. h.shape c.in_ok-repack.ensures.local ∙ ap₂ with_subcommand third_is (ap (λ (a : App). a.top) c.in_ok-repack.ensures.table)) c.subcommand-4.ensures;
     }

@@ -1,20 +1,24 @@
-use Rattle.std.proofs.Common.{[], inl, ap, subst, sym, ◌∙◌}
+use Rattle.std.proofs.Common.{[], cond, inl, nat_eq, ap, ap₂, subst, sym, ◌∙◌}
 use Rattle.std.specs.HashSet.{contains}
 use Rattle.std.specs.FinMap.{retain_keys}
 use Rattle.git_name.specs.Same.{same_name}
-use Rattle.fork_reach.specs.Objects.{Measures}
+use Rattle.fork_reach.specs.Objects.{Measures, measures_of}
 use Rattle.fork_request.specs.Told.{is_host_fault}
-use Rattle.fork_request.specs.declared.reply.Reply.TheVariants.{Failed}
+use Rattle.fork_request.specs.declared.reply.Reply.TheVariants.{Done, Unchanged, Failed}
 use Rattle.fork_ledger.specs.Private.{with_kept}
 use Rattle.fork_ledger.specs.Tenants.{at_tenant, private_of}
 use Rattle.fork_ledger.proofs.BothLemmas.{same_measures}
 use Rattle.looks.proofs.GrowthLemmas.{grows_same}
+use Rattle.fork_model.proofs.KeptLemmas.{use_of-kept}
+use Rattle.fork_model.specs.Answer.{pruned_reply}
 use Rattle.fork_host.specs.Bounds.{IsBounded}
 use Rattle.fork_host.specs.Handle.{visible_by}
+use Rattle.fork_host.specs.Own.{visible_in}
 use Rattle.fork_host.specs.Rows.{Kept, Unkept, Pruned, Unpruned, fault_told}
 use Rattle.fork_host.proofs.BoundLemmas.{bounded_gains, bounded_read, gains_left, gains_read, gains_then}
 use Rattle.fork_host.proofs.HandleLemmas.{same_then}
 use Rattle.fork_host.proofs.OwnLemmas.{kept, own_of, staged_kept, seen_itself, seen_measures}
+use Rattle.fork_host.proofs.PruneLemmas.{either_fine, pruned_told}
 use Rattle.fork_host.proofs.SafeLemmas.{read_uses}
 use Rattle.fork_host.proofs.pruning.keep_reached.Goals as goal
 
@@ -27,8 +31,15 @@ returns-in-Ok-clause-kept g c honest =
     let told = c.in-Ok.ensures in
     let set = c.keep_only.ensures.tenants ∙ ap (λ r. at_tenant mid.vault.now.tenants r.now (with_kept names)) told.same.tenant in
     let changes = kept first.vault.now mid.vault.now new.vault.now first.tenant.now names c.requires.there told.shape told.kept told.read.honest set c.keep_only.ensures.store.honest in
-    Kept c.done.ensures
-    (seen_itself first.vault.now new.vault.now first.tenant.now (retain_keys (visible_by first) names) changes honest ∙ ap (retain_keys (visible_by first)) (λ i name. told.found honest name i))
+    let left = retain_keys (visible_by first) names in
+    let same = ap (λ r. measures_of (visible_in mid.vault.now r.now)) told.same.tenant ∙ ap (λ (p : Measures × Measures). p.0) (same_measures first.vault.now.tenants mid.vault.now.tenants first.tenant.now told.shape) in
+    let stays = same_then first mid new told.same c.keep_only.ensures.same in
+    let reply = c.done_or_unchanged.ensures ∙ ap₂ (λ a b. cond (nat_eq a b) Unchanged (Done [])) c.used.ensures c.used-before.ensures
+    ∙ pruned_told (visible_by first) (visible_by mid) left (visible_by new) same (ap (λ r. measures_of (visible_in new.vault.now r.now)) stays.tenant ∙ seen_measures first.vault.now new.vault.now first.tenant.now left changes) (use_of-kept (visible_by first) names) c.requires.within in
+    let reached = ap (retain_keys (visible_by first)) (λ i name. told.found honest name i) in
+    Kept
+    (reply ∙ ap (pruned_reply (visible_by first)) reached)
+    (seen_itself first.vault.now new.vault.now first.tenant.now left changes honest ∙ reached)
 
 pub returns-in-Ok-clause-pruned : goal.returns-in-Ok-clause-pruned
 returns-in-Ok-clause-pruned g c =
@@ -39,7 +50,12 @@ returns-in-Ok-clause-pruned g c =
     let told = c.in-Ok.ensures in
     let set = c.keep_only.ensures.tenants ∙ ap (λ r. at_tenant mid.vault.now.tenants r.now (with_kept names)) told.same.tenant in
     let changes = kept first.vault.now mid.vault.now new.vault.now first.tenant.now names c.requires.there told.shape told.kept told.read.honest set c.keep_only.ensures.store.honest in
-    Pruned names c.done.ensures (seen_measures first.vault.now new.vault.now first.tenant.now (retain_keys (visible_by first) names) changes) told.rooted
+    let left = retain_keys (visible_by first) names in
+    let same = ap (λ r. measures_of (visible_in mid.vault.now r.now)) told.same.tenant ∙ ap (λ (p : Measures × Measures). p.0) (same_measures first.vault.now.tenants mid.vault.now.tenants first.tenant.now told.shape) in
+    let stays = same_then first mid new told.same c.keep_only.ensures.same in
+    let reply = c.done_or_unchanged.ensures ∙ ap₂ (λ a b. cond (nat_eq a b) Unchanged (Done [])) c.used.ensures c.used-before.ensures
+    ∙ pruned_told (visible_by first) (visible_by mid) left (visible_by new) same (ap (λ r. measures_of (visible_in new.vault.now r.now)) stays.tenant ∙ seen_measures first.vault.now new.vault.now first.tenant.now left changes) (use_of-kept (visible_by first) names) c.requires.within in
+    Pruned names reply (seen_measures first.vault.now new.vault.now first.tenant.now left changes) told.rooted
 
 pub returns-in-Ok-clause-own : goal.returns-in-Ok-clause-own
 returns-in-Ok-clause-own g c =
@@ -73,7 +89,7 @@ returns-in-Ok-clause-bounds g c =
     let mid = c.reached.new.self.vault.now in
     let new = c.keep_only.new.self.vault.now in
     let gains = gains_then [] first mid new (gains_read [] first mid c.in-Ok.ensures.read) (gains_left [] mid new c.keep_only.ensures.store) in
-    bounded_gains [] first new c.done.result gains (inl (ap is_host_fault c.done.ensures))
+    bounded_gains [] first new c.done_or_unchanged.result gains (inl (ap is_host_fault c.done_or_unchanged.ensures ∙ either_fine (nat_eq c.used.result c.used-before.result)))
 
 pub returns-in-Err-clause-bounds : goal.returns-in-Err-clause-bounds
 returns-in-Err-clause-bounds g c =

@@ -1,6 +1,6 @@
 use Rattle.std.proofs.Common.{ap, inl, refl, rules, subst, sym, ◌∙◌}
 use Rattle.std.specs.Prelude.{◌++◌}
-use Rattle.push_stream.specs.Incoming.{is_broken}
+use Rattle.push_stream.specs.OpenUpload.{is_broken}
 use Rattle.push_stream.specs.Reading.{Reading}
 use Rattle.push_stream.specs.Stream.{sent_in, stream_of}
 use Rattle.fork_request.specs.Told.{is_host_fault}

@@ -2,12 +2,12 @@ use Rattle.std.proofs.Common.{IfErr, OnOk}
 use Rattle.std.proofs.KnownBytes.{Keeps-refl}
 use Rattle.std.proofs.lemmas.Result.{on_ok_weaker}
 use Rattle.std.specs.Io.KnownBytes.{Keeps}
-use Rattle.fork_command.specs.declared.command.Command.TheVariants.{AddTenant, RemoveTenant, Serve, SetLimit, Upgrade}
+use Rattle.fork_command.specs.declared.command.Command.TheVariants.{AddTenant, RemoveTenant, Repack, Serve, SetLimit, Upgrade}
 use Rattle.fork_program.specs.Changing.{IsLimitSet, IsLimitUnset, IsNotAdded, IsNotRemoved, IsTenantAdded, IsTenantRemoved}
-use Rattle.fork_program.specs.Keeping.{IsNotUpgraded, IsUntouched}
+use Rattle.fork_program.specs.Keeping.{IsNotUpgraded, IsUnopened, IsUntouched}
 use Rattle.fork_program.specs.Serving.{IsListened, IsUnlistened}
 use Rattle.fork_program.proofs.EntryLemmas.{carried}
-use Rattle.fork_program.proofs.HostingLemmas.{if_err_more, untouched}
+use Rattle.fork_program.proofs.HostingLemmas.{if_err_more, on_ok_always, untouched}
 use Rattle.fork_program.proofs.entry.carried_out.Goals as goal
 
 pub returns-in-Serve : goal.returns-in-Serve
@@ -55,3 +55,11 @@ returns-in-RemoveTenant g c =
     let right : OnOk c.remove_tenant.result (IsTenantRemoved tenant × Keeps before before) = on_ok_weaker c.remove_tenant.result (λ done. (done, Keeps-refl before)) c.remove_tenant.ensures.ok in
     let why : IfErr c.remove_tenant.result (λ fault. IsNotRemoved tenant fault × IsUntouched input input before before) = if_err_more c.remove_tenant.result (λ fault why. (why, untouched input before)) c.remove_tenant.ensures.err in
     rw c.in-RemoveTenant.is (carried (RemoveTenant c.in-RemoveTenant.dir tenant) input input before before c.remove_tenant.result c.done-in-RemoveTenant.result c.done-in-RemoveTenant.ensures right why)
+
+pub returns-in-Repack : goal.returns-in-Repack
+returns-in-Repack g c =
+    let input = g.R.Read.remaining c.args.reader.now in
+    let before = g.W.Write.contents c.args.writer.now in
+    let right : OnOk c.repack.result (Keeps before before) = on_ok_always c.repack.result (Keeps-refl before) in
+    let why : IfErr c.repack.result (λ fault. IsUnopened fault × IsUntouched input input before before) = if_err_more c.repack.result (λ fault why. (why, untouched input before)) c.repack.ensures in
+    rw c.in-Repack.is (carried (Repack c.in-Repack.dir c.in-Repack.packed) input input before before c.repack.result c.done-in-Repack.result c.done-in-Repack.ensures right why)

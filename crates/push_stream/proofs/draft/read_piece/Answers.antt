@@ -4,7 +4,7 @@ use Rattle.git_reftx.specs.declared.reading.TheConstants.{MAX_COMMANDS}
 use Rattle.push_stream.specs.Again.{Opens}
 use Rattle.push_stream.specs.Adding.{IsAdded}
 use Rattle.push_stream.specs.Stream.{Breaks, Flows}
-use Rattle.push_stream.proofs.IncomingLemmas.{added_read, added_stands, both_ok, broken_read, short_gained, short_read, short_stands}
+use Rattle.push_stream.proofs.OpenUploadLemmas.{added_read, added_stands, both_ok, broken_read, short_gained, short_read, short_stands}
 use Rattle.push_stream.proofs.OpeningLemmas.{added_opens, breaks_opens, short_opens}
 use Rattle.push_stream.proofs.draft.read_piece.Goals as goal
 

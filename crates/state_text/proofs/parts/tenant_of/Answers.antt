@@ -1,6 +1,6 @@
 use Rattle.std.proofs.Common.{◌≡◌, ◌<◌, ◌^◌, sym, subst, ◌∙◌, refl, arith}
 use Rattle.fork_request.specs.Names.{IsTenantName}
-use Rattle.fork_request.specs.declared.limit.TheConstants.{MAX_LIMIT}
+use Rattle.fork_request.specs.declared.tenant_limit.TheConstants.{MAX_LIMIT}
 use Rattle.git_name.proofs.ReadingLemmas.{written_number}
 use Rattle.state_text.proofs.PartLemmas.{decimal_unique, plain_without, same_parts}
 use Rattle.state_text.proofs.parts.tenant_of.Goals as goal

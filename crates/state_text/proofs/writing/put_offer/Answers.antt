@@ -1,15 +1,18 @@
-use Rattle.std.proofs.Common.{◌++◌, ◌∙◌}
+use Rattle.std.proofs.Common.{List, ℕ, ◌++◌, ◌∙◌, refl, subst}
 use Rattle.std.specs.List.{flat_map}
 use Rattle.std.proofs.lemmas.Result.{on_ok_weaker}
 use Rattle.git_name.specs.Text.{ended}
+use Rattle.git_reftx.specs.Repository as git
 use Rattle.state_text.specs.declared.version.Version.TheVariants.{Two}
-use Rattle.state_text.specs.Text.{inner_lines, offer_line}
-use Rattle.state_text.proofs.WritingLemmas.{line_put}
+use Rattle.state_text.specs.Text.{inner_lines, offer_line, offer_lines}
+use Rattle.state_text.proofs.WritingLemmas.{line_then}
 use Rattle.state_text.proofs.writing.put_offer.Goals as goal
 
 pub returns : goal.returns
-returns c =
+returns g c =
+    let grown = record c.args.waiting.now { lines = c.put_offer_line.new.out } in
     let offer = c.args.offer.now in
-    let first = c.in_ok-put_offer_line.ensures ∙ (λ i. c.args.out.now.items ++ ended (offer_line (c.receiver.ensures.receiver i) (c.name.ensures.name i))) in
-    on_ok_weaker c.put_inner.result (λ put. line_put c.args.out.now.items (offer_line offer.receiver offer.name) c.put_offer_line.new.out.items c.put_inner.new.out.items (inner_lines Two c.args.tenant.now offer.name offer.repository) first
-    (put ∙ (λ i. c.put_offer_line.new.out.items ++ flat_map ended (inner_lines Two c.args.tenant.now (c.name-2.ensures.name i) (c.repository.ensures i))))) c.put_inner.ensures
+    let inner : List ℕ → git.Repository → List ℕ = λ name repository. flat_map ended (inner_lines Two c.args.tenant.now name repository) in
+    on_ok_weaker c.put_inner.result (λ put. line_then (g.W.Write.contents c.args.writer.now) (g.W.Write.contents c.put_inner.new.writer) c.args.waiting.now grown c.put_inner.new.waiting (ended (offer_line c.receiver.result.now c.name.result.now)) (inner c.name-2.result.now c.repository.result.now)
+    (flat_map ended (offer_lines Two c.args.tenant.now offer)) refl c.in_ok-put_offer_line.ensures put
+    (λ i. ended (offer_line (c.receiver.ensures.receiver i) (c.name.ensures.name i)) ++ inner (c.name-2.ensures.name i) (c.repository.ensures i))) c.put_inner.ensures

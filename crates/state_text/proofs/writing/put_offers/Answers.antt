@@ -4,4 +4,6 @@ use Rattle.state_text.proofs.WritingLemmas.{row_put}
 use Rattle.state_text.proofs.writing.put_offers.Goals as goal
 
 pub loop-offer-preserved : goal.loop-offer-preserved
-loop-offer-preserved c = row_put (offer_lines Two c.args.tenant.now) c.args.offers.now c.offer-item.result c.loop-offer.offer-index c.args.out.now.items c.loop-offer.out.items c.put_offer.new.out.items c.loop-offer-test.true c.offer-item.is c.loop-offer.invariant c.in_ok-put_offer.ensures
+loop-offer-preserved g c =
+    row_put (offer_lines Two c.args.tenant.now) c.args.offers.now c.offer-item.result c.loop-offer.offer-index (g.W.Write.contents c.args.writer.now) (g.W.Write.contents c.loop-offer.writer) (g.W.Write.contents c.put_offer.new.writer) c.args.waiting.now c.loop-offer.waiting c.put_offer.new.waiting
+    c.loop-offer-test.true c.offer-item.is c.loop-offer.invariant c.in_ok-put_offer.ensures

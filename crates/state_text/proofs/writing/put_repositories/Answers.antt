@@ -4,4 +4,6 @@ use Rattle.state_text.proofs.WritingLemmas.{row_put}
 use Rattle.state_text.proofs.writing.put_repositories.Goals as goal
 
 pub loop-name-preserved : goal.loop-name-preserved
-loop-name-preserved c = row_put (repository_lines Two c.args.tenant.now) c.args.repositories.now c.loop-name-item.result c.loop-name.name-index c.args.out.now.items c.loop-name.out.items c.put_repository.new.out.items c.loop-name-test.true c.loop-name-item.is c.loop-name.invariant c.in_ok-put_repository.ensures
+loop-name-preserved g c =
+    row_put (repository_lines Two c.args.tenant.now) c.args.repositories.now c.loop-name-item.result c.loop-name.name-index (g.W.Write.contents c.args.writer.now) (g.W.Write.contents c.loop-name.writer) (g.W.Write.contents c.put_repository.new.writer) c.args.waiting.now c.loop-name.waiting c.put_repository.new.waiting
+    c.loop-name-test.true c.loop-name-item.is c.loop-name.invariant c.in_ok-put_repository.ensures

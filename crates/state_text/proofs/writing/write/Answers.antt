@@ -1,15 +1,25 @@
-use Rattle.std.proofs.Common.{◌++◌, ◌∙◌, ap, codes}
+use Rattle.std.proofs.Common.{◌≡◌, ◌++◌, ◌∙◌, [], ap, codes, refl, subst}
 use Rattle.std.specs.List.{flat_map}
+use Rattle.std.proofs.lemmas.Result.{IfOk-weaker}
 use Rattle.git_name.specs.Text.{ended}
+use Rattle.sha2.specs.Sha256.{sha256}
 use Rattle.state_text.specs.declared.version.Version.TheVariants.{Two}
-use Rattle.state_text.specs.Text.{tenant_lines}
-use Rattle.state_text.proofs.WritingLemmas.{text_put}
+use Rattle.state_text.specs.Text.{state_text, tenant_lines}
+use Rattle.state_text.specs.Writing.{IsUnderWay, Puts}
+use Rattle.state_text.proofs.WritingLemmas.{if_ok_on, text_under}
+use Rattle.state_text.proofs.writing.write.Given as given
 use Rattle.state_text.proofs.writing.write.Goals as goal
 
-pub returns : goal.returns
-returns c =
-    let spelled = text_put c.extend_from_slice.new.self.items c.put_tenants.new.out.items c.extend_from_slice-2.new.self.items c.args.states.now
-    (c.in_ok-extend_from_slice.ensures.items ∙ ap (λ t. t ++ codes "forkhost state 2\n") c.new-out.ensures.items)
-    (c.in_ok-put_tenants.ensures ∙ ap (λ ts. c.extend_from_slice.new.self.items ++ flat_map ended (flat_map (tenant_lines Two) ts)) c.as_slice.ensures.tenants)
-    c.in_ok-extend_from_slice-2.ensures.items in
-    record { value = spelled; told = record { right = c.as_slice.ensures.sound; tells = tt; spelled = spelled } }
+-- the whole text is on its way before the end
+under : (g : given.Over) (c : goal.After-end g) → IsUnderWay (g.W.Write.contents c.args.writer.now) (g.W.Write.contents c.put_tenants.new.writer) (record c.put_tenants.new.waiting { lines = c.extend_from_slice-2.new.self }) (state_text Two c.args.states.now)
+under g c =
+    text_under (g.W.Write.contents c.args.writer.now) (g.W.Write.contents c.put_tenants.new.writer) c.in_ok-waiting.waiting (record c.in_ok-waiting.waiting { lines = c.extend_from_slice.new.self }) c.put_tenants.new.waiting (record c.put_tenants.new.waiting { lines = c.extend_from_slice-2.new.self }) c.args.states.now
+    (c.in_ok-waiting.ensures (g.W.Write.contents c.args.writer.now)) refl c.in_ok-extend_from_slice.ensures.items
+    (subst (λ tenants. Puts (g.W.Write.contents c.args.writer.now) (g.W.Write.contents c.put_tenants.new.writer) (record c.in_ok-waiting.waiting { lines = c.extend_from_slice.new.self }) c.put_tenants.new.waiting (flat_map ended (flat_map (tenant_lines Two) tenants))) c.as_slice-tenants.ensures.tenants c.in_ok-put_tenants.ensures)
+    refl c.in_ok-extend_from_slice-2.ensures.items
+
+pub returns-clause-text : goal.returns-clause-text
+returns-clause-text g c = if_ok_on c.end.result (λ spelled all. (all (g.W.Write.contents c.args.writer.now) (state_text Two c.args.states.now) (under g c)).0) c.end.ensures
+
+pub returns-clause-name : goal.returns-clause-name
+returns-clause-name g c = IfOk-weaker c.end.result _ _ (λ spelled all. (all (g.W.Write.contents c.args.writer.now) (state_text Two c.args.states.now) (under g c)).1) c.end.ensures

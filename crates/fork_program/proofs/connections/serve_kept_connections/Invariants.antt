@@ -1,6 +1,0 @@
-use Rattle.fork_program.specs.Serving.{AreVisits}
-use Rattle.fork_program.proofs.connections.serve_kept_connections.Given as goal
-
--- each connection so far was a visit
-abbrev pub invariant-loop : goal.invariant-loop
-invariant-loop g l = AreVisits l.fn.host l.host l.counter

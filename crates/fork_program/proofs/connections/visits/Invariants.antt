@@ -1,6 +1,0 @@
-use Rattle.fork_program.proofs.VisitLemmas.{IsPaused}
-use Rattle.fork_program.proofs.connections.visits.Given as goal
-
--- it paused before each visit but the first one
-abbrev pub invariant-loop : goal.invariant-loop
-invariant-loop g l = IsPaused l.fn.host l.host

@@ -1,0 +1,10 @@
+pub mod AppendLemmas
+pub mod ContentLemmas
+pub mod CopyLemmas
+pub mod GrowthLemmas
+pub mod LawLemmas
+pub mod ReadingLemmas
+pub mod RefusalLemmas
+pub mod RemovalLemmas
+pub mod StoredLemmas
+pub mod SurveyLemmas

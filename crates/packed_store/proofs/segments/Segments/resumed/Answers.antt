@@ -1,0 +1,34 @@
+use Rattle.std.proofs.Common.{◌≡◌, IsTrue, true, option_map, sym, subst, ◌∙◌, ap}
+use Rattle.devices.specs.Device.{Files, files_of}
+use Rattle.packed_store.specs.Place.{AreRecorded, Index, bytes_at, index_of}
+use Rattle.packed_store.specs.Stored.{AllWritten, AreWritten}
+use Rattle.std.specs.FinMap.{get}
+use Rattle.packed_store.proofs.ContentLemmas.{found_at}
+use Rattle.packed_store.proofs.StoredLemmas.{all_recorded, nothing_written, opened_written, shown_written}
+use Rattle.packed_store.specs.Survey.{opened, shown_in}
+use Rattle.packed_store.proofs.segments.Segments.resumed.Goals as goal
+
+pub invariant_of-result : goal.invariant_of-result
+invariant_of-result g c = record {
+  there = λ honest.
+      let first : IsTrue (g.D.Device.honest c.args.device) = sym c.survey.ensures.honest ∙ sym (ap g.D.Device.honest c.in_ok-log.ensures) ∙ honest in
+      let files = files_of (g.D.Device.past c.args.device) in
+      let same : files_of (g.D.Device.past c.in_ok-log.log.device) ≡ files = ap (λ d. files_of (g.D.Device.past d)) c.in_ok-log.ensures ∙ ap files_of (c.survey.ensures.past first) in
+      let shown = shown_in c.survey.new.found.live.entries c.survey.new.found.pending.entries in
+      let all : AllWritten files shown = c.in_ok-extent.ensures.written first (subst (AllWritten files) (sym c.new-found.ensures) (nothing_written files)) in
+      subst (λ (i : Index). AreRecorded (files_of (g.D.Device.past c.in_ok-log.log.device)) i) (sym c.in_ok-undo.ensures.live)
+      (subst (λ (f : Files). AreRecorded f (opened shown)) (sym same) (all_recorded files (opened shown) (opened_written files shown all)));
+}
+
+pub returns-clause-shows : goal.returns-clause-shows
+returns-clause-shows g c first name bytes shows =
+    let files = files_of (g.D.Device.past c.args.device) in
+    let log = c.in_ok-log.log in
+    let index = index_of c.undo.new.self.live.entries in
+    let shown = shown_in c.survey.new.found.live.entries c.survey.new.found.pending.entries in
+    let same : files_of (g.D.Device.past log.device) ≡ files = ap (λ d. files_of (g.D.Device.past d)) c.in_ok-log.ensures ∙ ap files_of (c.survey.ensures.past first) in
+    let honest : g.D.Device.honest log.device ≡ true = ap g.D.Device.honest c.in_ok-log.ensures ∙ c.survey.ensures.honest ∙ first in
+    let all : AllWritten files shown = c.in_ok-extent.ensures.written first (subst (AllWritten files) (sym c.new-found.ensures) (nothing_written files)) in
+    let written : AreWritten files index = subst (λ (i : Index). AreWritten files i) (sym c.in_ok-undo.ensures.live) (opened_written files shown all) in
+    shown_written files index name bytes written
+    (sym (ap (λ (f : Files). option_map (bytes_at f) (get index name)) same) ∙ sym (found_at (g.D.Device.honest log.device) (g.D.Device.past log.device) index name honest) ∙ shows)

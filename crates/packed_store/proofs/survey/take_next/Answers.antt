@@ -1,0 +1,12 @@
+use Rattle.std.proofs.Common.{Some, List, ℕ, Vec, Global, option_map, ap, sym, ◌∙◌}
+use Rattle.std.proofs.lemmas.Result.{on_ok_weaker}
+use Rattle.devices.specs.Device.{files_of}
+use Rattle.packed_store.proofs.StoredLemmas.{part_read}
+use Rattle.packed_store.proofs.survey.take_next.Goals as goal
+
+pub returns-clause-written : goal.returns-clause-written
+returns-clause-written g c honest =
+    let files = files_of (g.D.Device.past c.args.device.now) in
+    let found = ap Some c.as_slice.ensures.value ∙ sym (ap (option_map {T = Vec ℕ Global} {U = List ℕ} (λ bytes. bytes.items)) c.in-Some.is) ∙ c.in_ok-bytes.ensures.found honest in
+    let part = part_read files c.args.segment c.as_str.result.now c.as_slice.result.now c.args.at _ (c.as_str.ensures.value ∙ c.in_ok-path.ensures) found in
+    on_ok_weaker c.take_window.result (λ window. window files part) c.take_window.ensures.written

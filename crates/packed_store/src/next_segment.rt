@@ -1,0 +1,56 @@
+ghost use Rattle.std.specs.Prelude.{◌≡◌, IsTrue, IfOk, true, length};
+ghost use Rattle.devices.specs.Device.{files_of};
+ghost use Rattle.packed_store.specs.Place.{segment_of};
+
+use crate::place::{LAST_SEGMENT, path_of};
+use crate::survey::has_bytes;
+use devices::{Device, DeviceFault};
+use std::alloc::Global;
+
+// Whether a segment has no bytes. One that does not exist has none.
+fn is_blank<D: Device>(device: &mut D, alloc: Global, segment: u32) -> Result<bool, DeviceFault>
+    ensures blank { IsTrue (D.honest device.old) → IfOk result (λ is. is ≡ true → length (segment_of (files_of (D.past device.old)) segment) ≡ 0) }
+    ensures past { IsTrue (D.honest device.old) → D.past device.new ≡ D.past device.old }
+    ensures honest { D.honest device.new ≡ D.honest device.old }
+{
+    let path = path_of(alloc, segment)?;
+    let has = has_bytes(device, alloc, path.as_str(), 1)?;
+    Ok(!has)
+}
+
+// The number of the next segment, which must not exist.
+fn next_segment<D: Device>(device: &mut D, alloc: Global, segment: u32) -> Result<u32, DeviceFault>
+    ensures empty { IsTrue (D.honest device.old) → IfOk result (λ next. length (segment_of (files_of (D.past device.old)) next) ≡ 0) }
+    ensures past { IsTrue (D.honest device.old) → D.past device.new ≡ D.past device.old }
+    ensures honest { D.honest device.new ≡ D.honest device.old }
+{
+    if segment >= LAST_SEGMENT {
+        return Err(DeviceFault::Device);
+    }
+    let next = segment + 1;
+    let path = path_of(alloc, next)?;
+    let found = device.read_part(alloc, path.as_str(), 0, 0)?;
+    if found.is_some() {
+        return Err(DeviceFault::Device);
+    }
+    Ok(next)
+}
+
+/// The segment to begin after this one: the same, if it is one and has no bytes, or else the next, which does not exist.
+pub(crate) fn segment_after<D: Device>(
+    device: &mut D,
+    alloc: Global,
+    segment: u32,
+) -> Result<u32, DeviceFault>
+    ensures empty { IsTrue (D.honest device.old) → IfOk result (λ next. length (segment_of (files_of (D.past device.old)) next) ≡ 0) }
+    ensures past { IsTrue (D.honest device.old) → D.past device.new ≡ D.past device.old }
+    ensures honest { D.honest device.new ≡ D.honest device.old }
+{
+    if segment == 0 {
+        return next_segment(device, alloc, 0);
+    }
+    if !is_blank(device, alloc, segment)? {
+        return next_segment(device, alloc, segment);
+    }
+    Ok(segment)
+}

@@ -1,0 +1,251 @@
+// What the segments of a device have.
+ghost use Rattle.std.specs.Prelude.{◌≡◌, ◌+◌, ◌<◌, ◌≤◌, IsTrue, IfOk, OnOk, false, true, length};
+ghost use Rattle.devices.specs.Device.{Files, files_of};
+ghost use Rattle.packed_store.specs.Place.{bytes_of, segment_of};
+ghost use Rattle.packed_store.specs.Stored.{AllWritten, IsPart};
+ghost use Rattle.packed_store.specs.Survey.{shown_in};
+
+use crate::found::Found;
+use crate::place::{SEGMENTS, path_of};
+use devices::{Device, DeviceFault};
+use std::alloc::Global;
+
+// The most bytes that are read at once: at least as many as any record has.
+const WINDOW: u32 = 16_777_216;
+
+/// The last segment, how many bytes it has, and whether its end is no whole record.
+#[derive(Clone, Copy, Debug)]
+pub(crate) struct Last {
+    pub(crate) segment: u32,
+    pub(crate) end: u32,
+    pub(crate) is_torn: bool,
+}
+
+/// The last segment, the first one, and how many bytes all of them have.
+#[derive(Clone, Copy, Debug)]
+pub(crate) struct Extent {
+    pub(crate) last: Last,
+    pub(crate) first: u32,
+    pub(crate) total: u64,
+}
+
+// A file has at least so many bytes, and fewer than so many.
+#[derive(Clone, Copy)]
+struct Between {
+    least: u32,
+    more: u32,
+}
+
+/// Whether a file has at least so many bytes.
+pub(crate) fn has_bytes<D: Device>(
+    device: &mut D,
+    alloc: Global,
+    path: &str,
+    count: u32,
+) -> Result<bool, DeviceFault>
+    requires { 0 < count }
+    ensures more { IsTrue (D.honest device.old) → IfOk result (λ has. has ≡ true → count ≤ length (bytes_of (D.past device.old) path.now)) }
+    ensures fewer { IsTrue (D.honest device.old) → IfOk result (λ has. has ≡ false → length (bytes_of (D.past device.old) path.now) < count) }
+    ensures past { IsTrue (D.honest device.old) → D.past device.new ≡ D.past device.old }
+    ensures honest { D.honest device.new ≡ D.honest device.old }
+{
+    let found = device.read_part(alloc, path, count as u64, 0)?;
+    Ok(found.is_some())
+}
+
+// Halves what is not known of the length of a file.
+fn halve<D: Device>(
+    device: &mut D,
+    alloc: Global,
+    path: &str,
+    known: Between,
+) -> Result<Between, DeviceFault>
+    requires { known.least + 1 < known.more }
+    ensures least { IsTrue (D.honest device.old) → known.least ≤ length (bytes_of (D.past device.old) path.now) → IfOk result (λ now. now.least ≤ length (bytes_of (D.past device.old) path.now)) }
+    ensures more { IsTrue (D.honest device.old) → length (bytes_of (D.past device.old) path.now) < known.more → IfOk result (λ now. length (bytes_of (D.past device.old) path.now) < now.more) }
+    ensures smaller { IfOk result (λ now. (now.least < now.more) × (now.more + known.least < known.more + now.least)) }
+    ensures past { IsTrue (D.honest device.old) → D.past device.new ≡ D.past device.old }
+    ensures honest { D.honest device.new ≡ D.honest device.old }
+{
+    let Between { least, more } = known;
+    let middle = least + (more - least) / 2;
+    if has_bytes(device, alloc, path, middle)? {
+        return Ok(Between {
+            least: middle,
+            more,
+        });
+    }
+    Ok(Between {
+        least,
+        more: middle,
+    })
+}
+
+/// How many bytes a file has. One of 2^32 - 1 bytes or more is no store's.
+pub(crate) fn length_of<D: Device>(
+    device: &mut D,
+    alloc: Global,
+    path: &str,
+) -> Result<u32, DeviceFault>
+    ensures exact { IsTrue (D.honest device.old) → IfOk result (λ count. length (bytes_of (D.past device.old) path.now) ≡ count) }
+    ensures past { IsTrue (D.honest device.old) → D.past device.new ≡ D.past device.old }
+    ensures honest { D.honest device.new ≡ D.honest device.old }
+{
+    if has_bytes(device, alloc, path, u32::MAX)? {
+        return Err(DeviceFault::Device);
+    }
+    let mut known = Between {
+        least: 0,
+        more: u32::MAX,
+    };
+    while known.more - known.least > 1 {
+        known = halve(device, alloc, path, known)?;
+    }
+    Ok(known.least)
+}
+
+// Takes in the records of a segment that has so many bytes, from its first byte on. Returns whether all of them are whole.
+fn survey_bytes<D: Device>(
+    device: &mut D,
+    alloc: Global,
+    segment: u32,
+    end: u32,
+    found: &mut Found,
+) -> Result<bool, DeviceFault>
+    ensures written { IsTrue (D.honest device.old) → OnOk result (AllWritten (files_of (D.past device.old)) (shown_in found.old.live.entries found.old.pending.entries) → AllWritten (files_of (D.past device.old)) (shown_in found.new.live.entries found.new.pending.entries)) }
+    ensures past { IsTrue (D.honest device.old) → D.past device.new ≡ D.past device.old }
+    ensures honest { D.honest device.new ≡ D.honest device.old }
+{
+    let mut at: u32 = 0;
+    while at < end {
+        let taken = take_next(device, alloc, segment, at, end, found)?;
+        if taken == 0 {
+            return Ok(false);
+        }
+        at += taken;
+    }
+    Ok(!found.is_damaged)
+}
+
+// Takes in the whole records at the front of bytes that a device gave, if these are in the segment.
+fn take_window(
+    found: &mut Found,
+    bytes: &[u8],
+    segment: u32,
+    at: u32,
+    end: u32,
+) -> Result<u32, DeviceFault>
+    ensures within { IfOk result (λ taken. at + taken ≤ end) }
+    ensures written { OnOk result ((files : Files) → IsPart files segment at bytes.now → AllWritten files (shown_in found.old.live.entries found.old.pending.entries) → AllWritten files (shown_in found.new.live.entries found.new.pending.entries)) }
+{
+    if at > end {
+        return Err(DeviceFault::Device);
+    }
+    if bytes.len() > (end - at) as usize {
+        return Err(DeviceFault::Device);
+    }
+    Ok(found.take_in(bytes, segment, at)?)
+}
+
+// Reads a window of a segment, and takes in the whole records at its front.
+fn take_next<D: Device>(
+    device: &mut D,
+    alloc: Global,
+    segment: u32,
+    at: u32,
+    end: u32,
+    found: &mut Found,
+) -> Result<u32, DeviceFault>
+    requires { at < end }
+    ensures within { IfOk result (λ taken. at + taken ≤ end) }
+    ensures written { IsTrue (D.honest device.old) → OnOk result (AllWritten (files_of (D.past device.old)) (shown_in found.old.live.entries found.old.pending.entries) → AllWritten (files_of (D.past device.old)) (shown_in found.new.live.entries found.new.pending.entries)) }
+    ensures past { IsTrue (D.honest device.old) → D.past device.new ≡ D.past device.old }
+    ensures honest { D.honest device.new ≡ D.honest device.old }
+{
+    let path = path_of(alloc, segment)?;
+    let size = (end - at).min(WINDOW);
+    let Some(bytes) = device.read_part(alloc, path.as_str(), at as u64, size as usize)? else {
+        return Err(DeviceFault::Device);
+    };
+    take_window(found, bytes.as_slice(), segment, at, end)
+}
+
+// Takes in the whole records of a segment.
+fn survey_segment<D: Device>(
+    device: &mut D,
+    alloc: Global,
+    segment: u32,
+    found: &mut Found,
+) -> Result<Last, DeviceFault>
+    ensures written { IsTrue (D.honest device.old) → OnOk result (AllWritten (files_of (D.past device.old)) (shown_in found.old.live.entries found.old.pending.entries) → AllWritten (files_of (D.past device.old)) (shown_in found.new.live.entries found.new.pending.entries)) }
+    ensures last { IsTrue (D.honest device.old) → IfOk result (λ last. length (segment_of (files_of (D.past device.old)) last.segment) ≡ last.end) }
+    ensures past { IsTrue (D.honest device.old) → D.past device.new ≡ D.past device.old }
+    ensures honest { D.honest device.new ≡ D.honest device.old }
+{
+    found.begin_segment();
+    let path = path_of(alloc, segment)?;
+    let end = length_of(device, alloc, path.as_str())?;
+    let is_whole = survey_bytes(device, alloc, segment, end, found)?;
+    Ok(Last {
+        segment,
+        end,
+        is_torn: !is_whole,
+    })
+}
+
+// The number that eight digits write. The first segment is 1.
+fn number_of(called: &[u8]) -> Option<u32> {
+    if called.len() != 8 {
+        return None;
+    }
+    let mut number: u32 = 0;
+    for digit in called {
+        if !digit.is_ascii_digit() {
+            return None;
+        }
+        number = number.wrapping_mul(10).wrapping_add((*digit - b'0') as u32);
+    }
+    if number == 0 {
+        return None;
+    }
+    Some(number)
+}
+
+// The number of the first segment in a listing, and 1 if there is none.
+fn first_in(listing: &[Vec<u8>]) -> u32 {
+    for called in listing.iter() {
+        if let Some(segment) = number_of(called.as_slice()) {
+            return segment;
+        }
+    }
+    1
+}
+
+/// Takes in the whole records of all segments, in the order of their numbers. Returns their extent.
+pub(crate) fn survey<D: Device>(
+    device: &mut D,
+    alloc: Global,
+    found: &mut Found,
+) -> Result<Extent, DeviceFault>
+    ensures written { IsTrue (D.honest device.old) → OnOk result (AllWritten (files_of (D.past device.old)) (shown_in found.old.live.entries found.old.pending.entries) → AllWritten (files_of (D.past device.old)) (shown_in found.new.live.entries found.new.pending.entries)) }
+    ensures last { IsTrue (D.honest device.old) → IfOk result (λ extent. extent.last.is_torn ≡ false → length (segment_of (files_of (D.past device.old)) extent.last.segment) ≡ extent.last.end) }
+    ensures past { IsTrue (D.honest device.old) → D.past device.new ≡ D.past device.old }
+    ensures honest { D.honest device.new ≡ D.honest device.old }
+{
+    let mut last = Last {
+        segment: 0,
+        end: 0,
+        is_torn: true,
+    };
+    let mut total: u64 = 0;
+    let listing = device.list(alloc, SEGMENTS)?;
+    for called in listing.iter() {
+        let Some(segment) = number_of(called.as_slice()) else {
+            continue;
+        };
+        last = survey_segment(device, alloc, segment, found)?;
+        total = total.saturating_add(last.end as u64);
+    }
+    let first = first_in(listing.as_slice());
+    Ok(Extent { last, first, total })
+}

@@ -1,0 +1,84 @@
+// Lines that are written together, and hashed as they are written.
+ghost use Rattle.std.specs.Prelude.{◌≡◌, IfOk, List, ℕ, OnOk, Option, []};
+ghost use Rattle.std.specs.Io.KnownBytes.{Appends};
+ghost use Rattle.sha2.specs.Sha256.{sha256};
+
+use git_name::Name;
+use sha2::{Digest, Sha256};
+use std::alloc::{AllocError, Global};
+use std::io;
+use std::io::Write;
+
+// How many bytes are enough to be written.
+const ENOUGH: usize = 65_536;
+
+// Room for so many bytes and the longest line.
+const ROOM: usize = 66_560;
+
+/// Lines that wait to be written, and the hash of what was written before them.
+#[derive(Drop)]
+pub(crate) struct Waiting {
+    pub(crate) lines: Vec<u8>,
+    hasher: Sha256,
+    // How many bytes were written.
+    len: u64,
+}
+
+/// What was written of a text that is whole.
+#[derive(Clone, Copy, Debug)]
+pub struct Spelled {
+    /// The SHA-256 of the text (FIPS 180-4, 6.2).
+    pub name: Name,
+    /// How many bytes it has.
+    pub len: u64,
+}
+
+impl Waiting {
+    ghost use Rattle.state_text.specs.Writing.{IsUnderWay, Puts};
+
+    /// Nothing yet.
+    pub(crate) fn new(alloc: Global) -> Result<Waiting, AllocError>
+        ensures { IfOk result (λ waiting. (first : Option (List ℕ)) → IsUnderWay first first waiting []) }
+    {
+        Ok(Waiting {
+            lines: Vec::with_capacity(alloc, ROOM)?,
+            hasher: Sha256::new(),
+            len: 0,
+        })
+    }
+
+    // Writes what waits.
+    fn write_out<W: Write>(&mut self, writer: &mut W) -> io::Result<()>
+        ensures puts { OnOk result (Puts (W.contents writer.old) (W.contents writer.new) self.old self.new []) }
+        ensures none { OnOk result (self.new.lines.items ≡ []) }
+    {
+        writer.write_all(self.lines.as_slice())?;
+        self.hasher.update(self.lines.as_slice());
+        self.len = self.len.saturating_add(self.lines.len() as u64);
+        self.lines.clear();
+        Ok(())
+    }
+
+    /// Writes what waits, if it is enough.
+    pub(crate) fn settle<W: Write>(&mut self, writer: &mut W) -> io::Result<()>
+        ensures { OnOk result (Puts (W.contents writer.old) (W.contents writer.new) self.old self.new []) }
+    {
+        if self.lines.len() < ENOUGH {
+            return Ok(());
+        }
+        self.write_out(writer)
+    }
+
+    /// Writes what waits, at the end of the text.
+    pub(crate) fn end<W: Write>(self, writer: &mut W) -> io::Result<Spelled>
+        ensures { IfOk result (λ spelled. (first : Option (List ℕ)) (text : List ℕ) → IsUnderWay first (W.contents writer.old) self text → Appends first (W.contents writer.new) text × (spelled.name ≡ sha256 text)) }
+    {
+        let mut waiting = self;
+        waiting.write_out(writer)?;
+        let Waiting { hasher, len, .. } = waiting;
+        Ok(Spelled {
+            name: Name::new(hasher.finalize()),
+            len,
+        })
+    }
+}

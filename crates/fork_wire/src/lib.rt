@@ -12,6 +12,7 @@ mod kept;
 mod laws;
 mod reopening;
 mod session;
+mod upload_log;
 
 pub use crate::again::{AgainFault, serve_again};
 pub use crate::at_once::serve_round;
@@ -25,3 +26,4 @@ pub use crate::laws::{
 };
 pub use crate::reopening::write_uploads;
 pub use crate::session::{serve, serve_kept};
+pub use crate::upload_log::copy_uploads;

@@ -21,8 +21,8 @@ pub use crate::isolation::two_sessions_agree;
 pub use crate::journal::{Journal, NoJournal, NotKept, Written};
 pub use crate::laws::{
     a_session_in_two_halves_is_the_whole, a_session_is_served_again, all_uploads_open_again,
-    parts_open_an_upload_again, rounds_are_one_serving, what_is_kept_is_enough,
-    what_is_not_kept_changed_nothing,
+    copied_frames_open_uploads_again, parts_open_an_upload_again, rounds_are_one_serving,
+    what_is_kept_is_enough, what_is_not_kept_changed_nothing,
 };
 pub use crate::reopening::write_uploads;
 pub use crate::session::{serve, serve_kept};

@@ -137,10 +137,10 @@ impl<R: Read + Drop> LogReader<R> {
     }
 
     /// The sum after the last whole piece that was read.
-    pub fn sum(&self) -> [u8; 32]
-        ensures { result ≡ self.now.sum }
+    pub fn sum(&self) -> &[u8; 32]
+        ensures { result.now ≡ self.now.sum }
     {
-        self.sum
+        &self.sum
     }
 }
 

@@ -41,10 +41,10 @@ impl<W: Write + Drop> LogWriter<W> {
     }
 
     /// The sum after the last piece.
-    pub fn sum(&self) -> [u8; 32]
-        ensures { result ≡ self.now.sum }
+    pub fn sum(&self) -> &[u8; 32]
+        ensures { result.now ≡ self.now.sum }
     {
-        self.sum
+        &self.sum
     }
 }
 

@@ -85,7 +85,7 @@ fn repeat_uploads<H: Files<File = File>, S: LooseFiles>(
     };
     let count = repeat_log(alloc, &mut log, host)?;
     match log.ended() {
-        Some(Ended::Whole) if Name::new(log.sum()) == reference.sum => Ok(count),
+        Some(Ended::Whole) if Name::new(*log.sum()) == reference.sum => Ok(count),
         _ => Err(Fault::Journal),
     }
 }

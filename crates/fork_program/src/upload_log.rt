@@ -140,7 +140,7 @@ impl UploadLog {
         LogReference {
             number: self.number,
             len: self.len,
-            sum: Name::new(self.log.sum()),
+            sum: Name::new(*self.log.sum()),
         }
     }
 

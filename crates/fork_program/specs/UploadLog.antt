@@ -3,8 +3,5 @@ use Rattle.std.specs.Prelude.{ℕ, List, ◌++◌, codes, decimal}
 use Rattle.hex.specs.Hex.{encode_lower}
 
 -- the number of the log, how many of its bytes count, and the sum after these
-abbrev pub reference_words : ℕ → ℕ → List ℕ → List ℕ
-reference_words number len sum = codes "uploads " ++ decimal number ++ codes " " ++ decimal len ++ codes " " ++ encode_lower sum
-
 abbrev pub reference_line : ℕ → ℕ → List ℕ → List ℕ
-reference_line number len sum = reference_words number len sum ++ codes "\n"
+reference_line number len sum = codes "uploads" ++ codes " " ++ decimal number ++ codes " " ++ decimal len ++ codes " " ++ encode_lower sum ++ codes "\n"

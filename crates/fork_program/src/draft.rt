@@ -136,11 +136,13 @@ fn with_uploads<H: Files<File = File> + AllocGlobal, S: LooseFiles>(
 {
     if let Some(log) = log {
         let reference = log.reference();
+        let uploads = reference.len;
         let journal = unnamed(rt, alloc, dir, standing, name, reserve, Some(reference))?;
+        let log = Some(log);
         return Ok(Begun {
             journal,
-            log: Some(log),
-            uploads: reference.len,
+            log,
+            uploads,
         });
     }
     let mut journal = unnamed(rt, alloc, dir, standing, name, reserve, None)?;

@@ -22,6 +22,9 @@ const SPARE: u64 = 1_048_576;
 // How many objects the requests of a journal may visit: about a second of work.
 const MOST_VISITED: u64 = 16_777_216;
 
+// Of so many frames it is copied what they have of uploads: less than half a second of work.
+const MOST_COPIED: u64 = 16_384;
+
 /// A folder that keeps a host: its state as it was last saved, and the journal of what was done since.
 #[derive(Drop)]
 pub struct Keep<'a, H> {
@@ -174,6 +177,13 @@ impl<'a, H: Files<File = File> + AllocGlobal> Keep<'a, H> {
         self.number != 0 || self.uploads.saturating_add(self.journal.bytes()) > SPARE
     }
 
+    // Whether it takes less time to copy what the journal has of uploads than to begin a log anew.
+    fn is_copied(&self, log: &UploadLog) -> bool {
+        !log.is_long()
+            && self.journal.bytes() <= self.uploads
+            && self.journal.frames() <= MOST_COPIED
+    }
+
     // The log of open uploads to which the next journal is to refer, if any. After an `Err` this journal goes on.
     fn next_log<S: LooseFiles>(
         &mut self,
@@ -188,7 +198,7 @@ impl<'a, H: Files<File = File> + AllocGlobal> Keep<'a, H> {
             return Ok(None);
         }
         if let Some(log) = log {
-            if !log.is_long() {
+            if self.is_copied(&log) {
                 let log = log.go_on(self.rt, alloc, self.dir, self.name)?;
                 return Ok(Some(log));
             }

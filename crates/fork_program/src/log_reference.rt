@@ -1,8 +1,8 @@
 // The line of a journal that refers to the log of open uploads.
-ghost use Rattle.std.specs.Prelude.{◌≡◌, IfOk, IfSome, string_bytes};
-ghost use Rattle.fork_program.specs.UploadLog.{reference_line, reference_words};
+ghost use Rattle.std.specs.Prelude.{◌≡◌, ◌∷◌, ◌++◌, [], IfOk, IfSome, codes, decimal as spelled, string_bytes};
+ghost use Rattle.fork_program.specs.UploadLog.{reference_line};
 
-use git_name::{Name, decimal, first_word};
+use git_name::{Name, decimal, split_once};
 use std::alloc::{AllocError, Global};
 use std::io;
 use std::io::{BufRead, ErrorKind, Read};
@@ -18,28 +18,42 @@ pub(crate) struct LogReference {
     pub(crate) sum: Name,
 }
 
+// A text, and a number after it.
+fn numbered(alloc: Global, text: &str, number: u64) -> Result<String, AllocError>
+    ensures { IfOk result (λ line. string_bytes line ≡ text.now ++ codes " " ++ spelled number) }
+{
+    format!(in alloc; "{text} {number}")
+}
+
 impl LogReference {
     /// The line, with its LF.
     pub(crate) fn line(&self, alloc: Global) -> Result<String, AllocError>
         ensures { IfOk result (λ line. string_bytes line ≡ reference_line self.now.number self.now.len self.now.sum) }
     {
-        let Self { number, len, sum } = self;
-        let sum = hex::encode(alloc, sum.as_bytes().as_slice())?;
-        format!(in alloc; "uploads {number} {len} {sum}\n")
+        let digits = hex::encode(alloc, self.sum.as_bytes().as_slice())?;
+        let front = numbered(alloc, "uploads", self.number)?;
+        let mut line = numbered(alloc, front.as_str(), self.len)?;
+        line.push_str(" ")?;
+        line.push_str(digits.as_str())?;
+        line.push_str("\n")?;
+        Ok(line)
     }
 }
 
 // What a line says, without its LF.
 fn reference_in(line: &[u8]) -> Option<LogReference>
-    ensures { IfSome result (λ told. line.now ≡ reference_words told.number told.len told.sum) }
+    ensures { IfSome result (λ told. line.now ++ 10 ∷ [] ≡ reference_line told.number told.len told.sum) }
 {
-    let Some(words) = line.strip_prefix(b"uploads ".as_slice()) else {
+    let Some((word, words)) = split_once(line, b' ') else {
         return None;
     };
-    let Some((number, words)) = first_word(words) else {
+    if word != b"uploads".as_slice() {
+        return None;
+    }
+    let Some((number, words)) = split_once(words, b' ') else {
         return None;
     };
-    let Some((len, sum)) = first_word(words) else {
+    let Some((len, sum)) = split_once(words, b' ') else {
         return None;
     };
     let Some(number) = decimal(number) else {

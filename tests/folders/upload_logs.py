@@ -86,12 +86,12 @@ def log_of(folder):
 class Traced(Program):
     """The program under strace, whose log is at a path."""
 
-    def __init__(self, program, path):
+    def __init__(self, program, path, *how):
         super().__init__(program.path, program.more)
-        self.log = path
+        self.log, self.how = path, how
 
     def given(self, *words):
-        return ["strace", "-D", "-f", "-o", self.log, "-e", f"trace={CALLS}", *super().given(*words)]
+        return ["strace", "-D", "-f", "-o", self.log, *self.how, *super().given(*words)]
 
 
 def show_small_savings(checks, program, work):
@@ -99,7 +99,7 @@ def show_small_savings(checks, program, work):
     if not shutil.which("strace"):
         raise OSError("there is no strace, by which calls are seen")
     folder, calls = Folder(os.path.join(work, "kept")), os.path.join(work, "calls")
-    host = begun(checks, Traced(program, calls), folder, work)
+    host = begun(checks, Traced(program, calls, "-e", f"trace={CALLS}"), folder, work)
     files = {folder.place_of(name_of(*blob("alice", number)))[0] for number in range(COUNT)}
     before = os.path.getsize(calls)
     host.save("a saving")

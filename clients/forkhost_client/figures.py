@@ -9,6 +9,8 @@ from .faults import Fatal
 from .forms import is_name, number
 
 LONGEST_NUMBER = 20
+# Of open uploads, beside the journal (docs/FORMATS.md, "Stored file and journal").
+LOGS = "uploads.1", "uploads.2"
 # A row of `tenants` is a name and these, in their order.
 OF_TENANTS = {
     "used_bytes": "Bytes of use of the objects that the tenant sees.",
@@ -57,15 +59,15 @@ def of_folder(folder: str) -> list:
     """Of the folder of a host, whose files are not opened."""
     age = time.time() - os.stat(os.path.join(folder, "state")).st_mtime
     journals = [entry.path for entry in os.scandir(os.path.join(folder, "journal")) if is_name(entry.name.removesuffix(".2"))]
-    length = sum(map(length_of, journals))
+    length = sum(map(length_of, [*journals, *(os.path.join(folder, name) for name in LOGS)]))
     return [
         Gauge("forkhost_state_age_seconds", "Seconds since the state was last written.", {"": max(0, round(age, 3))}),
-        Gauge("forkhost_journal_bytes", "Bytes of the journal.", {"": length}),
+        Gauge("forkhost_journal_bytes", "Bytes of the journal, with those of open uploads beside it.", {"": length}),
     ]
 
 
 def length_of(path: str) -> int:
-    """A journal goes when its state does, maybe at this moment."""
+    """A journal goes when its state does, maybe at this moment; a log when no upload is open."""
     try:
         return os.stat(path).st_size
     except FileNotFoundError:

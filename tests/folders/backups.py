@@ -179,21 +179,23 @@ HAPPENINGS = {
     "objects go": lambda busy: busy.ask(*GIVEN_UP, held=True),
 }
 STEPS = ["state", "journal", "objects", "after objects"]
-BEFORE, SWEPT = "before=$(stat -c %i:%y state)", "{ test ! -e swept || cp -a swept /backup/host; }"
-COPIES = f"{BEFORE} &&\n  cp -a state journal /backup/host && {{ cp -a objects /backup/host; {SWEPT[2:]}"
-LOOK = ' &&\n  test "$before" = "$(stat -c %i:%y state)"\n'
+BEFORE, SWEPT = "before=$(now)", "{ test ! -e swept || cp -a swept /backup/host; }"
+LOGS = "$(ls | grep uploads)"
+COPIES = f"{BEFORE} &&\n  cp -a state journal {LOGS} /backup/host && {{ cp -a objects /backup/host; {SWEPT[2:]}"
+LOOK = ' &&\n  test "$before" = "$(now)"\n'
+LOOK_AT_LOGS = "stat -c %i:%w uploads.* 2> /dev/null; "
 # Wrong commands; what happens to show it, and before which step; and how the copy is refused.
 WRONG = {
     "objects first": (
-        (COPIES, f"cp -a objects /backup/host && {BEFORE} && cp -a state journal /backup/host && {SWEPT}"),
+        (COPIES, f"cp -a objects /backup/host && {BEFORE} && cp -a state journal {LOGS} /backup/host && {SWEPT}"),
         ("objects come, and the state is saved", "after objects", b"lost "),
     ),
     "the journal before the state": (
-        (COPIES, f"cp -a journal /backup/host && {BEFORE} && cp -a state objects /backup/host && {SWEPT}"),
+        (COPIES, f"cp -a journal {LOGS} /backup/host && {BEFORE} && cp -a state objects /backup/host && {SWEPT}"),
         ("objects come, and the state is saved", "after journal", b"journal of another state"),
     ),
     "swept before objects": (
-        (COPIES, f"{BEFORE} && cp -a state journal /backup/host && {SWEPT} && cp -a objects /backup/host"),
+        (COPIES, f"{BEFORE} && cp -a state journal {LOGS} /backup/host && {SWEPT} && cp -a objects /backup/host"),
         ("objects go", "objects", b"lost "),
     ),
     "without the look at the state": ((LOOK, "\n"), ("objects go, and the state is saved", "after journal", b"lost ")),
@@ -232,6 +234,30 @@ def show_wrong_backups(checks, program, work):
         status, output, said, _ = copying.run(once(busy, step, happening))
         last = said.splitlines()[-1:]
         checks.same(f"{label}: check, {last}", (1, b"", [True]), (status, output, [fault in row for row in last]))
+        busy.end()
+
+
+def upload(fill):
+    """An upload of more than 1 MiB."""
+    return [(b"bob", b"part\n\n" + record(b"blob", fill * 1_000_000)), (b"bob", b"part\n" + record(b"blob", fill * 100_000))]
+
+
+def begin_another(busy):
+    """The log of uploads goes, and another one of its name comes, while the state stays."""
+    for turns in ([(b"bob", b"part-drop\n")], upload(b"y")):
+        busy.ask(*turns, *SPARE)
+
+
+def show_log_backups(checks, program, work):
+    """Between the journal and the log another log of this name comes. Without a look at the logs the copy is refused."""
+    for label, change, end in (("a look", "", (0, b"sound\n")), ("no look", LOOK_AT_LOGS, (1, b""))):
+        os.mkdir(place := os.path.join(work, label.replace(" ", "-")))
+        busy = Busy(program, place, random.Random(1))
+        busy.ask(*upload(b"x"), *SPARE)
+        due = [begin_another]
+        happens = lambda step, _: due.pop()(busy) if step == "after journal" and due else None
+        status, output, said, _ = Copying(busy, lambda script: script.replace(change, "") if change else script).run(happens)
+        checks.same(f"{label} at the logs: check, {said[-100:]}", end, (status, output))
         busy.end()
 
 

@@ -24,8 +24,9 @@ def show_told(checks, program, folder, label, fault):
 
 
 def files(folder):
-    """The state and the journals."""
-    return [folder.inside("state"), *(folder.inside("journal", name) for name in folder.journals())]
+    """The state, the journals, and the logs of uploads that are files."""
+    logs = [path for path in map(folder.uploads_path, folder.logs()) if os.path.isfile(path)]
+    return [folder.inside("state"), *(folder.inside("journal", name) for name in folder.journals()), *logs]
 
 
 def looked_at(whole):

@@ -1,9 +1,28 @@
-"""The form of a journal: a first line, and a log of pieces between sums."""
+"""The form of a journal: a first line, perhaps one that refers to a log of uploads, and a log of pieces between sums."""
 import hashlib
+import re
+from typing import NamedTuple
 
 LINE = 75
 HEAD = 36
 SUM = 32
+# What stands for a name before the first piece of a log of uploads.
+NAMELESS = "0" * 64
+REFERENCE = re.compile(rb"uploads ([12]) ([1-9][0-9]*) ([0-9a-f]{64})\n")
+
+
+class Reference(NamedTuple):
+    """A log of uploads, by its number, and how many bytes of it count, with the sum after the last piece of these."""
+
+    number: int
+    length: int
+    sum: bytes
+
+
+def lines_of(journal):
+    """How long the lines of a journal are, and to which log of uploads it refers, if it does."""
+    found = REFERENCE.match(journal, LINE)
+    return (found.end(), Reference(int(found[1]), int(found[2]), bytes.fromhex(found[3].decode()))) if found else (LINE, None)
 
 
 def first_line(standing):

@@ -3,7 +3,7 @@ import hashlib
 import os
 import re
 
-from lib.chained import LINE as FIRST, first_line, log, pieces_in
+from lib.chained import NAMELESS, SUM, first_line, lines_of, log, pieces_in
 from lib.objects import name_of, stored
 from lib.packed import Segments
 
@@ -81,21 +81,45 @@ class Folder:
         return self.inside("journal", self.name())
 
     def log(self):
-        """The journal after its first line."""
-        return content(self.journal_path())[FIRST:]
+        """The journal after its lines."""
+        written = content(self.journal_path())
+        return written[lines_of(written)[0] :]
 
     def set_log(self, written):
         """Writes a journal that was begun over the state that is there."""
         write(self.journal_path(), first_line(self.name()) + written)
 
+    def uploads_path(self, number):
+        """The path of a log of uploads."""
+        return self.inside(f"uploads.{number}")
+
+    def logs(self):
+        """The numbers of the logs of uploads that exist."""
+        return [number for number in (1, 2) if os.path.lexists(self.uploads_path(number))]
+
+    def referred(self):
+        """The log of uploads to which the journal refers, or None."""
+        return lines_of(content(self.journal_path()))[1]
+
+    def uploads(self):
+        """The frames that count of the log of uploads to which the journal refers, which must be right."""
+        referred = self.referred()
+        if referred is None:
+            return b""
+        written = content(self.uploads_path(referred.number))[: referred.length]
+        pieces, end = pieces_in(NAMELESS, written)
+        if (len(written), end, written[-SUM:]) != (referred.length, "whole", referred.sum):
+            raise ValueError(f"{self.uploads_path(referred.number)} is not what the journal says")
+        return b"".join(pieces)
+
     def journal(self):
-        """The frames that the journal has, which must be right to its end."""
+        """The frames that a start does again: those of a log of uploads, and those of the journal, which must be right to its end."""
         if not os.path.exists(self.journal_path()):
             return content(self.old_journal_path()) if os.path.exists(self.old_journal_path()) else b""
         pieces, end = pieces_in(self.name(), self.log())
         if end == "altered":
             raise ValueError(f"{self.journal_path()} is altered")
-        return b"".join(pieces)
+        return self.uploads() + b"".join(pieces)
 
     def set_journal(self, stream):
         """Writes a journal of these bytes, with right sums."""

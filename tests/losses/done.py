@@ -3,7 +3,7 @@ state has."""
 from typing import NamedTuple
 
 from folders.killing import changes
-from lib.chained import LINE, bounds, pieces_in
+from lib.chained import bounds, lines_of, pieces_in
 from lib.folder import requests_in
 from lib.frames import replies
 from losses.past import ROOT, Named, Synced, Told, Wrote
@@ -42,6 +42,7 @@ class Journal:
 
     def __init__(self, name, data):
         self.name, self.first, self.data, self.ends = name[:64].decode(), len(data), bytearray(data), []
+        self.lines = lines_of(data)[0]
 
     def add(self, at, event):
         self.data += event.data
@@ -49,7 +50,7 @@ class Journal:
 
     def done(self):
         """The requests that were added, each with the event that ended it."""
-        written = bytes(self.data[LINE:])
+        written = bytes(self.data[self.lines :])
         pieces, end = pieces_in(self.name, written)
         if end == "altered":
             raise ValueError("a journal that was written is altered")
@@ -57,7 +58,7 @@ class Journal:
         places = []
         for piece, end in zip(pieces, ends[1:]):
             at += len(piece)
-            places.append((at, LINE + end))
+            places.append((at, self.lines + end))
         stream, length = b"".join(pieces), 0
         for request in requests_in(stream):
             length += len(request)

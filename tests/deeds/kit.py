@@ -12,7 +12,7 @@ from deeds.deed import do
 
 PARTS = ("src", "specs", "proofs")
 # A check may take this many seconds.
-LONGEST = "3600"
+LONGEST = "5400"
 
 
 def kit_library():

@@ -1,5 +1,6 @@
 """Checks side by side, of several crates and of one."""
 import threading
+import time
 from concurrent.futures import ThreadPoolExecutor
 
 from deeds.kit import checked
@@ -9,13 +10,14 @@ NO_CHECK = "error: there was no check", 0.0
 
 class Lanes:
     """Lanes that try the batches of these trials. A lane goes on with the crate that it has, or else begins the next one; where
-    all are begun, it helps with another."""
+    all are begun, it helps with another. After so many seconds no check begins, and those that run are ended."""
 
-    def __init__(self, trials):
+    def __init__(self, trials, seconds):
         self.waiting, self.begun, self.change = list(trials), [], threading.Condition()
+        self.end = time.monotonic() + seconds
 
     def run(self, count):
-        """Tries all batches in so many lanes."""
+        """Tries all batches in so many lanes, or those for which there is time."""
         with ThreadPoolExecutor(count) as pool:
             for lane in [pool.submit(self.work) for _ in range(count)]:
                 lane.result()
@@ -27,16 +29,16 @@ class Lanes:
             trial, deeds, kept = taken
             said = NO_CHECK
             try:
-                said = checked(trial.crate, deeds, kept)
+                said = checked(trial.crate, deeds, kept, self.end)
             finally:
                 with self.change:
                     trial.settle(deeds, kept, *said)
                     self.change.notify_all()
 
     def next(self, own):
-        """A trial, its batch and the folder for the check that a lane makes next; None where all is tried."""
+        """A trial, its batch and the folder for the check that a lane makes next; None where there is none, or no time for it."""
         with self.change:
-            while True:
+            while time.monotonic() < self.end:
                 while not (own and own.is_ready()) and self.waiting:
                     own = self.waiting.pop(0)
                     own.begin()

@@ -22,7 +22,7 @@ class Trial:
     def __init__(self, crate, files, logs=None):
         self.crate, self.files, self.logs = crate, files, logs
         self.passed, self.failed, self.took = 0, 0, []
-        self.left, self.running, self.kept = [], 0, None
+        self.left, self.running, self.kept = None, 0, None
 
     def tell(self, deed, kind, why):
         if kind == REFUSED:
@@ -61,19 +61,31 @@ class Trial:
         return self.left.pop(0), folder
 
     def settle(self, deeds, folder, text, seconds):
-        """What a check said of a batch, which is over."""
+        """What a check said of a batch, or None if there was no time for it."""
         self.running -= 1
         self.kept.give(folder)
         self.took.append(seconds)
         if self.logs:
-            Path(self.logs, f"{self.crate.name}-{len(self.took)}.log").write_text(text)
-        self.left += self.judge(deeds, text)
+            Path(self.logs, f"{self.crate.name}-{len(self.took)}.log").write_text(text or "")
+        self.left += [deeds] if text is None else self.judge(deeds, text)
         self.end_if_over()
 
     def end_if_over(self):
-        if self.left or self.running:
-            return
-        self.kept.end()
+        if not self.left and not self.running:
+            self.kept.end()
+            self.tell_cost()
+
+    def untried(self):
+        """How many deeds are left, for which there was no time."""
+        return len(self.files) if self.left is None else sum(map(len, self.left))
+
+    def tell_untried(self):
+        if self.left:
+            self.tell_cost()
+        if self.untried():
+            print(f"{self.crate.name}: {self.untried()} of {len(self.files)} deeds were not tried, since there was no time left")
+
+    def tell_cost(self):
         took = " + ".join(f"{it:.0f}" for it in self.took)
         print(f"{self.crate.name}: {len(self.files)} deeds in {len(self.took)} checks: {sum(self.took):.0f} s of a processor ({took or 0})")
 

@@ -65,8 +65,8 @@ fn length_of(log: &LogWriter<Roomy<File>>) -> io::Result<u64> {
 }
 
 impl UploadLog {
-    /// Begins the log of this number with the host's open uploads, in the place of one of that number.
-    pub(crate) fn begin<H: Files<File = File>, S: LooseFiles>(
+    // Begins the log of this number. A part of it may be there after an `Err`.
+    fn begun<H: Files<File = File>, S: LooseFiles>(
         rt: &H,
         alloc: Global,
         dir: &str,
@@ -94,7 +94,29 @@ impl UploadLog {
         })
     }
 
-    /// Appends what the journal of this name, which refers to the log, has of uploads. After an `Err` the log is not appended to.
+    /// Begins the log of this number with the host's open uploads, in the place of one of that number. After an `Err` there is
+    /// none, so it takes no room.
+    pub(crate) fn begin<H: Files<File = File>, S: LooseFiles>(
+        rt: &H,
+        alloc: Global,
+        dir: &str,
+        number: u64,
+        host: &mut Host<S>,
+        reserve: &Reserve,
+    ) -> Result<UploadLog, NotLogged>
+        ensures saved { IsSaved host.old host.new }
+    {
+        match UploadLog::begun(rt, alloc, dir, number, host, reserve) {
+            Ok(log) => Ok(log),
+            Err(_) => {
+                let _removed = remove(rt, alloc, dir, number);
+                Err(NotLogged)
+            }
+        }
+    }
+
+    /// Appends what the journal of this name, which refers to the log, has of uploads. After an `Err` the log is as long as it
+    /// was, and is not appended to any more.
     pub(crate) fn go_on<H: Files<File = File>>(
         self,
         rt: &H,
@@ -105,11 +127,12 @@ impl UploadLog {
         let UploadLog {
             number,
             mut log,
-            len: _,
+            len,
             begun,
             is_new,
         } = self;
         let Ok(()) = copy_journal(rt, alloc, dir, journal, &mut log) else {
+            let _cut = log.writer().writer().set_len(len);
             return Err(NotLogged);
         };
         let Ok(len) = length_of(&log) else {

@@ -66,7 +66,7 @@ fn length_of(log: &LogWriter<Roomy<File>>) -> io::Result<u64> {
 
 impl UploadLog {
     // Begins the log of this number. A part of it may be there after an `Err`.
-    fn begun<H: Files<File = File>, S: LooseFiles>(
+    fn written<H: Files<File = File>, S: LooseFiles>(
         rt: &H,
         alloc: Global,
         dir: &str,
@@ -106,7 +106,7 @@ impl UploadLog {
     ) -> Result<UploadLog, NotLogged>
         ensures saved { IsSaved host.old host.new }
     {
-        match UploadLog::begun(rt, alloc, dir, number, host, reserve) {
+        match UploadLog::written(rt, alloc, dir, number, host, reserve) {
             Ok(log) => Ok(log),
             Err(_) => {
                 let _removed = remove(rt, alloc, dir, number);

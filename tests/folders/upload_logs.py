@@ -66,6 +66,13 @@ class Uploading:
         self.serving.child.communicate()
 
 
+def without_reserve(path):
+    """A folder whose host makes no reserve: to write and copy that would take most of the time."""
+    folder = Folder(path)
+    os.mkdir(folder.inside("reserve"))
+    return folder
+
+
 def begun(checks, program, folder, work):
     """A host of two tenants, of which one has an upload in a log."""
     host = Uploading(checks, program, folder, work)
@@ -98,7 +105,7 @@ def show_small_savings(checks, program, work):
     """By strace: a saving reads nothing of an upload that is in a log, and writes nothing of it."""
     if not shutil.which("strace"):
         raise OSError("there is no strace, by which calls are seen")
-    folder, calls = Folder(os.path.join(work, "kept")), os.path.join(work, "calls")
+    folder, calls = without_reserve(os.path.join(work, "kept")), os.path.join(work, "calls")
     host = begun(checks, Traced(program, calls, "-e", f"trace={CALLS}"), folder, work)
     files = {folder.place_of(name_of(*blob("alice", number)))[0] for number in range(COUNT)}
     before = os.path.getsize(calls)
@@ -115,7 +122,7 @@ def show_small_savings(checks, program, work):
 
 def show_appended(checks, program, work):
     """What came of uploads is appended to the log, until that is 1 MiB longer than it was; then the other file has all anew."""
-    folder = Folder(os.path.join(work, "kept"))
+    folder = without_reserve(os.path.join(work, "kept"))
     host = begun(checks, program, folder, work)
     first, length = log_of(folder), log_of(folder).length
     checks.same("there is one log", [first.number], folder.logs())
@@ -142,7 +149,7 @@ ASKS = [(who, ask) for who in (ALICE, BOB) for ask in (b"push r\n\n", b"part\n",
 
 def logged(checks, program, work):
     """A folder that a kill left, with a log of uploads and a journal after it; and the log as it was before."""
-    folder = Folder(os.path.join(work, "base"))
+    folder = without_reserve(os.path.join(work, "base"))
     host = begun(checks, program, folder, work)
     early = content(folder.uploads_path(log_of(folder).number))
     host.save("a second tenant", *parts_of(BOB, b"\nwrong"), (BOB, b"part-drop\n"), *parts_of(ALICE, body_of("more", 2)[1:]))
@@ -276,6 +283,7 @@ def show_logs_go(checks, program, work):
     show_told_as_before(checks, Program(program.path), "repack", folder)
     checks.same("no log after an end", ([], b""), (folder.logs(), folder.journal()))
     folder = copy("serve")
+    os.rmdir(folder.inside("reserve"))
     serving = Serving(program, os.path.join(work, "socket"), 1, "--dir", folder.path)
     checks.same("a start removes the log", ([], None), (folder.logs(), folder.referred()))
     told = serving.told(frame(ALICE, b"push r\n\n"))

@@ -32,7 +32,7 @@ check:
 	@test -x "$(PROGRAM)" || { echo "$(PROGRAM) does not exist; build it, or name another one by PROGRAM=" >&2; exit 1; }
 	docs/clauses --check
 	docs/pictures --check
-	@for test in $(CHECKS); do echo "tests/$$test"; "tests/$$test" "$(PROGRAM)" || exit 1; done
+	tests/run_all "$(PROGRAM)" $(CHECKS)
 
 install:
 	@test -x "$(PROGRAM)" || { echo "$(PROGRAM) is not there; build it, or name another one by PROGRAM=" >&2; exit 1; }

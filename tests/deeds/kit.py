@@ -6,13 +6,16 @@ import shutil
 import subprocess
 import sys
 import tempfile
+import time
 from pathlib import Path
 
 from deeds.deed import do
 
 PARTS = ("src", "specs", "proofs")
 # A check may take this many seconds.
-LONGEST = "3600"
+LONGEST = 5400
+# The status of timeout(1) where it ended what it ran.
+CUT_OFF = 124
 
 
 def kit_library():
@@ -50,12 +53,13 @@ def unbuilt(crate):
     return [it.name for it in crate.below() if not is_built(it)]
 
 
-def checked(crate, deeds, kept):
-    """What a check says of the functions that the deeds change, and the seconds of a processor that it took. What it proves
-    is kept, for the next check of this crate."""
+def checked(crate, deeds, kept, end):
+    """What a check says of the functions that the deeds change, or None if it has not ended at the time `end`, and the seconds of a
+    processor that it took. What it proves is kept, for the next check of this crate."""
     functions = sorted(set().union(*(it.functions for it in deeds)))
     only = [f"--only={crate.name}::{it}" for it in functions]
-    words = ["timeout", "--foreground", LONGEST, rtlib.RATTLE, "check", *crate.words(["--jobs", "1"], keeps=False), "--incremental", str(kept), *only]
+    longest = max(1, min(LONGEST, end - time.monotonic()))
+    words = ["timeout", "--foreground", str(longest), rtlib.RATTLE, "check", *crate.words(["--jobs", "1"], keeps=False), "--incremental", str(kept), *only]
     with tempfile.TemporaryDirectory() as room:
         for part in PARTS:
             if os.path.isdir(f"{crate.folder}/{part}"):
@@ -67,4 +71,7 @@ def checked(crate, deeds, kept):
         _, status, used = os.wait4(ran.pid, 0)
         ran.returncode = os.waitstatus_to_exitcode(status)
     # 0 where all is proved, 1 where something is not: whatever else comes is no verdict.
-    return text if ran.returncode in (0, 1) else f"error: the check ended with status {ran.returncode}", used.ru_utime + used.ru_stime
+    if ran.returncode not in (0, 1):
+        is_over = ran.returncode == CUT_OFF and time.monotonic() >= end
+        text = None if is_over else f"error: the check ended with status {ran.returncode}"
+    return text, used.ru_utime + used.ru_stime

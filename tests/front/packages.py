@@ -1,4 +1,5 @@
 """Programs of Debian's packages, which are installed where they are not there."""
+import fcntl
 import os
 import shutil
 import subprocess
@@ -14,13 +15,22 @@ APT = ["apt-get", "-qq", "-o", "APT::Sandbox::User=root"]
 def found(name, package):
     """The path of a program. If its package cannot be installed either, that is a failure, and never skipped."""
     if not shutil.which(name, path=PATH):
-        outer = {**os.environ, "DEBIAN_FRONTEND": "noninteractive"}
-        for words in (["update"], ["install", "-y", "--no-install-recommends", package]):
-            subprocess.run([*APT, *words], env=outer, stdin=subprocess.DEVNULL, stdout=subprocess.DEVNULL, timeout=120)
+        install(name, package)
     path = shutil.which(name, path=PATH)
     if not path:
         raise ValueError(f"{name} is not there, and apt-get did not install {package}")
     return path
+
+
+def install(name, package):
+    """Installs a package, unless another test did so meanwhile: one test at a time."""
+    with open(__file__, "rb") as lock:
+        fcntl.flock(lock, fcntl.LOCK_EX)
+        if shutil.which(name, path=PATH):
+            return
+        outer = {**os.environ, "DEBIAN_FRONTEND": "noninteractive"}
+        for words in (["update"], ["install", "-y", "--no-install-recommends", package]):
+            subprocess.run([*APT, *words], env=outer, stdin=subprocess.DEVNULL, stdout=subprocess.DEVNULL, timeout=300)
 
 
 def lacking(name, package):

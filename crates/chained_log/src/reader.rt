@@ -135,6 +135,13 @@ impl<R: Read + Drop> LogReader<R> {
     pub fn ended(&self) -> Option<Ended> {
         self.ended
     }
+
+    /// The sum after the last whole piece that was read.
+    pub fn sum(&self) -> &[u8; 32]
+        ensures { result.now ≡ self.now.sum }
+    {
+        &self.sum
+    }
 }
 
 impl<R: Read> LogReader<R> {

@@ -39,6 +39,13 @@ impl<W: Write + Drop> LogWriter<W> {
     {
         &self.writer
     }
+
+    /// The sum after the last piece.
+    pub fn sum(&self) -> &[u8; 32]
+        ensures { result.now ≡ self.now.sum }
+    {
+        &self.sum
+    }
 }
 
 impl<W: Write> Write for LogWriter<W> {

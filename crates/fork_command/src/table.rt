@@ -2,7 +2,7 @@ ghost use Rattle.std.specs.Prelude.{◌≡◌, IfOk, codes, false};
 ghost use Rattle.clap.specs.Walk.{rule_of};
 ghost use Rattle.clap.specs.Words.{app_of};
 ghost use Rattle.clap.specs.declared.builder.command.Command.TheViews.{out-Command};
-ghost use Rattle.fork_command.specs.Table.{at_once_rule, connections_rule, flag_rule, folder_app, hash_object_app, listening_app, needed_rule, option_rule, repack_app, run_app, serve_app, serving_app, table_app, tenant_app, tenants_rule, with_hosting, word_rule};
+ghost use Rattle.fork_command.specs.Table.{add_tenant_app, at_once_rule, check_app, connections_rule, flag_rule, folder_app, hash_object_app, listening_app, needed_rule, option_rule, remove_tenant_app, repack_app, run_app, serve_app, serving_app, set_limit_app, table_app, tenant_app, tenants_rule, top_app, upgrade_app, with_hosting, word_rule};
 
 use clap::{Arg, ArgAction, Command, value_parser};
 use std::alloc::{AllocError, Global};
@@ -196,57 +196,100 @@ fn repack<'a>(alloc: Global) -> Result<Command<'a>, AllocError>
     .arg(packed(alloc, "Keep the objects in few files"))
 }
 
+// The subcommand that reads all that a folder keeps.
+fn check<'a>(alloc: Global) -> Result<Command<'a>, AllocError>
+    ensures table { IfOk result (λ c. app_of c ≡ check_app) }
+    ensures local { IfOk result (λ c. (out-Command c).has_globals ≡ false) }
+{
+    of_folder(
+        alloc,
+        "check",
+        "Read all that a folder keeps, and tell what is wrong with it",
+    )
+}
+
+// The subcommand that saves what a folder keeps in the newest form.
+fn upgrade<'a>(alloc: Global) -> Result<Command<'a>, AllocError>
+    ensures table { IfOk result (λ c. app_of c ≡ upgrade_app) }
+    ensures local { IfOk result (λ c. (out-Command c).has_globals ≡ false) }
+{
+    of_folder(
+        alloc,
+        "upgrade",
+        "Save what a folder keeps in the newest form, and print its version",
+    )
+}
+
+// The table without subcommands.
+fn top<'a>(alloc: Global) -> Command<'a>
+    ensures table { app_of result ≡ top_app }
+    ensures local { (out-Command result).has_globals ≡ false }
+{
+    Command::new(alloc, "forkhost")
+        .about("The core of a Git host for many tenants")
+        .version(VERSION)
+        .subcommand_required(true)
+        .disable_help_subcommand(true)
+}
+
 // The table with the subcommands that serve, and those that read or upgrade a folder.
 fn serving<'a>(alloc: Global) -> Result<Command<'a>, AllocError>
     ensures table { IfOk result (λ c. app_of c ≡ serving_app) }
 {
-    let check = of_folder(
-        alloc,
-        "check",
-        "Read all that a folder keeps, and tell what is wrong with it",
-    )?;
-    let upgrade = of_folder(
-        alloc,
-        "upgrade",
-        "Save what a folder keeps in the newest form, and print its version",
-    )?;
-    let top = Command::new(alloc, "forkhost")
-        .about("The core of a Git host for many tenants")
-        .version(VERSION)
-        .subcommand_required(true)
-        .disable_help_subcommand(true);
-    top.subcommand(hash_object(alloc)?)?
+    top(alloc)
+        .subcommand(hash_object(alloc)?)?
         .subcommand(run(alloc)?)?
         .subcommand(serve(alloc)?)?
-        .subcommand(check)?
-        .subcommand(upgrade)
+        .subcommand(check(alloc)?)?
+        .subcommand(upgrade(alloc)?)
+}
+
+// The subcommand that adds a tenant.
+fn add_tenant<'a>(alloc: Global) -> Result<Command<'a>, AllocError>
+    ensures table { IfOk result (λ c. app_of c ≡ add_tenant_app) }
+    ensures local { IfOk result (λ c. (out-Command c).has_globals ≡ false) }
+{
+    of_tenant(
+        alloc,
+        "add-tenant",
+        "Add a tenant to what a folder keeps",
+        tenant(alloc, "TENANT=LIMIT", "The tenant, and its limit in bytes"),
+    )
+}
+
+// The subcommand that gives a tenant another limit.
+fn set_limit<'a>(alloc: Global) -> Result<Command<'a>, AllocError>
+    ensures table { IfOk result (λ c. app_of c ≡ set_limit_app) }
+    ensures local { IfOk result (λ c. (out-Command c).has_globals ≡ false) }
+{
+    of_tenant(
+        alloc,
+        "set-limit",
+        "Give a tenant of what a folder keeps another limit",
+        tenant(alloc, "TENANT=LIMIT", "The tenant, and its limit in bytes"),
+    )
+}
+
+// The subcommand that takes a tenant out.
+fn remove_tenant<'a>(alloc: Global) -> Result<Command<'a>, AllocError>
+    ensures table { IfOk result (λ c. app_of c ≡ remove_tenant_app) }
+    ensures local { IfOk result (λ c. (out-Command c).has_globals ≡ false) }
+{
+    of_tenant(
+        alloc,
+        "remove-tenant",
+        "Take a tenant out of what a folder keeps, with all that it has",
+        tenant(alloc, "TENANT", "The tenant"),
+    )
 }
 
 /// What the command line takes.
 pub(crate) fn table<'a>(alloc: Global) -> Result<Command<'a>, AllocError>
     ensures table { IfOk result (λ c. app_of c ≡ table_app) }
 {
-    let add = of_tenant(
-        alloc,
-        "add-tenant",
-        "Add a tenant to what a folder keeps",
-        tenant(alloc, "TENANT=LIMIT", "The tenant, and its limit in bytes"),
-    )?;
-    let limit = of_tenant(
-        alloc,
-        "set-limit",
-        "Give a tenant of what a folder keeps another limit",
-        tenant(alloc, "TENANT=LIMIT", "The tenant, and its limit in bytes"),
-    )?;
-    let remove = of_tenant(
-        alloc,
-        "remove-tenant",
-        "Take a tenant out of what a folder keeps, with all that it has",
-        tenant(alloc, "TENANT", "The tenant"),
-    )?;
     serving(alloc)?
-        .subcommand(add)?
-        .subcommand(limit)?
-        .subcommand(remove)?
+        .subcommand(add_tenant(alloc)?)?
+        .subcommand(set_limit(alloc)?)?
+        .subcommand(remove_tenant(alloc)?)?
         .subcommand(repack(alloc)?)
 }

@@ -1,3 +1,4 @@
+pub mod ReferenceLemmas
 pub mod TakenLemmas
 pub mod GivenLemmas
 pub mod HostingLemmas

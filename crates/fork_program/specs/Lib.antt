@@ -8,3 +8,4 @@ pub mod Serving
 pub mod Program
 pub mod Asked
 pub mod Causes
+pub mod UploadLog

@@ -5,7 +5,9 @@ ghost use Rattle.state_text.specs.declared.version.Version.TheVariants.{Two};
 ghost use Rattle.fork_program.specs.Keeping.{IsNameOf, IsSaved};
 
 use crate::fault::Fault;
+use crate::log_reference::LogReference;
 use crate::roomy::Roomy;
+use crate::upload_log::UploadLog;
 use chained_log::LogWriter;
 use fork_host::Host;
 use fork_state::save;
@@ -16,16 +18,23 @@ use state_text::{Spelled, States, write};
 use std::alloc::Global;
 use std::fs::{File, Files, OpenFile};
 use std::io;
-use std::io::ErrorKind;
+use std::io::{ErrorKind, Write};
 
-// A state to be saved, whose text is in the part of the folder's state: its name and length. And its journal, which may
-// begin with the open uploads.
+// A journal that is begun: the log of open uploads to which it refers, if there is one, and how many bytes the uploads
+// have in that log or at the journal's beginning.
+#[derive(Drop)]
+pub(crate) struct Begun {
+    pub(crate) journal: LogWriter<Roomy<File>>,
+    pub(crate) log: Option<UploadLog>,
+    pub(crate) uploads: u64,
+}
+
+// A state to be saved, whose text is in the part of the folder's state: its name and length. And its journal.
 #[derive(Drop)]
 pub(crate) struct Draft {
     pub(crate) name: Name,
     pub(crate) len: u64,
-    pub(crate) journal: LogWriter<Roomy<File>>,
-    pub(crate) uploads: u64,
+    pub(crate) begun: Begun,
 }
 
 // Writes the text of these states into the part of the folder's state, and syncs it.
@@ -71,8 +80,14 @@ fn written<H: Files<File = File>>(
     }
 }
 
-// Begins an empty journal for the state `name`, while `standing` is the state in the folder. Whatever is beside
-// the journal of `standing` is removed first, so a kill leaves at most the new journal beside it.
+// Writes the line that refers to a log of open uploads.
+fn refer(alloc: Global, writer: &mut Roomy<File>, reference: LogReference) -> io::Result<()> {
+    let line = reference.line(alloc)?;
+    writer.write_all(line.as_bytes())
+}
+
+// Begins an empty journal for the state `name`, while `standing` is the state in the folder. It may refer to a log of open
+// uploads. Whatever is beside the journal of `standing` is removed first, so a kill leaves at most the new journal beside it.
 fn unnamed<H: Files<File = File> + AllocGlobal>(
     rt: &H,
     alloc: Global,
@@ -80,6 +95,7 @@ fn unnamed<H: Files<File = File> + AllocGlobal>(
     standing: Name,
     name: Name,
     reserve: &Reserve,
+    reference: Option<LogReference>,
 ) -> Result<LogWriter<Roomy<File>>, Fault>
     ensures { IfErr result (λ fault. fault ≡ Fault.NotSaved) }
 {
@@ -92,13 +108,19 @@ fn unnamed<H: Files<File = File> + AllocGlobal>(
     let Ok(file) = begin_journal(rt, alloc, dir, standing, reserve) else {
         return Err(Fault::NotSaved);
     };
-    match LogWriter::new(alloc, Roomy::new(file, shared), *name.as_bytes()) {
+    let mut writer = Roomy::new(file, shared);
+    if let Some(reference) = reference {
+        let Ok(()) = refer(alloc, &mut writer, reference) else {
+            return Err(Fault::NotSaved);
+        };
+    }
+    match LogWriter::new(alloc, writer, *name.as_bytes()) {
         Ok(journal) => Ok(journal),
         Err(_) => Err(Fault::NotSaved),
     }
 }
 
-// The same, but the journal begins with the host's open uploads. Returns how many bytes these have, too.
+// The same, but the journal refers to this log of the host's open uploads, or begins with these if there is none.
 fn with_uploads<H: Files<File = File> + AllocGlobal, S: LooseFiles>(
     rt: &H,
     alloc: Global,
@@ -107,15 +129,31 @@ fn with_uploads<H: Files<File = File> + AllocGlobal, S: LooseFiles>(
     name: Name,
     host: &mut Host<S>,
     reserve: &Reserve,
-) -> Result<(LogWriter<Roomy<File>>, u64), Fault>
+    log: Option<UploadLog>,
+) -> Result<Begun, Fault>
     ensures cause { IfErr result (λ fault. fault ≡ Fault.NotSaved) }
     ensures saved { IsSaved host.old host.new }
 {
-    let mut journal = unnamed(rt, alloc, dir, standing, name, reserve)?;
+    if let Some(log) = log {
+        let reference = log.reference();
+        let uploads = reference.len;
+        let journal = unnamed(rt, alloc, dir, standing, name, reserve, Some(reference))?;
+        let log = Some(log);
+        return Ok(Begun {
+            journal,
+            log,
+            uploads,
+        });
+    }
+    let mut journal = unnamed(rt, alloc, dir, standing, name, reserve, None)?;
     let Ok(uploads) = write_uploads(host, alloc, &mut journal) else {
         return Err(Fault::NotSaved);
     };
-    Ok((journal, uploads))
+    Ok(Begun {
+        journal,
+        log: None,
+        uploads,
+    })
 }
 
 // Drafts the host's state, with an empty journal. The folder still has its old state and its journal. Returns `None` if
@@ -138,12 +176,15 @@ pub(crate) fn closed<H: Files<File = File> + AllocGlobal, S: LooseFiles>(
         return Ok(None);
     };
     let Spelled { name, len } = spelled;
-    match unnamed(rt, alloc, dir, standing, name, reserve) {
+    match unnamed(rt, alloc, dir, standing, name, reserve, None) {
         Ok(journal) => Ok(Some(Draft {
             name,
             len,
-            journal,
-            uploads: 0,
+            begun: Begun {
+                journal,
+                log: None,
+                uploads: 0,
+            },
         })),
         Err(_) => {
             drop_state(rt, alloc, dir);
@@ -152,7 +193,8 @@ pub(crate) fn closed<H: Files<File = File> + AllocGlobal, S: LooseFiles>(
     }
 }
 
-// The same, but the journal begins with the open uploads. It is `None` too if one of these cannot be read or written.
+// The same, but the journal has the open uploads, in this log if there is one. It is `None` too if one of these cannot be
+// read or written.
 pub(crate) fn drafted<H: Files<File = File> + AllocGlobal, S: LooseFiles>(
     rt: &H,
     alloc: Global,
@@ -160,6 +202,7 @@ pub(crate) fn drafted<H: Files<File = File> + AllocGlobal, S: LooseFiles>(
     standing: Name,
     host: &mut Host<S>,
     reserve: &Reserve,
+    log: Option<UploadLog>,
 ) -> Result<Option<Draft>, Fault>
     ensures cause { IfErr result (λ fault. fault ≡ Fault.NotSaved) }
     ensures saved { IsSaved host.old host.new }
@@ -168,10 +211,10 @@ pub(crate) fn drafted<H: Files<File = File> + AllocGlobal, S: LooseFiles>(
     let Ok(states) = save(alloc, host) else {
         return Ok(None);
     };
-    drafted_as(rt, alloc, dir, standing, host, &states, reserve)
+    drafted_as(rt, alloc, dir, standing, host, &states, reserve, log)
 }
 
-// Drafts these states, with a journal that begins with the host's open uploads.
+// Drafts these states, with a journal that has the host's open uploads, in this log if there is one.
 pub(crate) fn drafted_as<H: Files<File = File> + AllocGlobal, S: LooseFiles>(
     rt: &H,
     alloc: Global,
@@ -180,6 +223,7 @@ pub(crate) fn drafted_as<H: Files<File = File> + AllocGlobal, S: LooseFiles>(
     host: &mut Host<S>,
     states: &States,
     reserve: &Reserve,
+    log: Option<UploadLog>,
 ) -> Result<Option<Draft>, Fault>
     ensures cause { IfErr result (λ fault. fault ≡ Fault.NotSaved) }
     ensures saved { IsSaved host.old host.new }
@@ -189,13 +233,8 @@ pub(crate) fn drafted_as<H: Files<File = File> + AllocGlobal, S: LooseFiles>(
         return Ok(None);
     };
     let Spelled { name, len } = spelled;
-    match with_uploads(rt, alloc, dir, standing, name, host, reserve) {
-        Ok((journal, uploads)) => Ok(Some(Draft {
-            name,
-            len,
-            journal,
-            uploads,
-        })),
+    match with_uploads(rt, alloc, dir, standing, name, host, reserve, log) {
+        Ok(begun) => Ok(Some(Draft { name, len, begun })),
         Err(_) => {
             drop_state(rt, alloc, dir);
             Ok(None)

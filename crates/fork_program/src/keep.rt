@@ -1,10 +1,11 @@
 ghost use Rattle.std.specs.Prelude.{◌≡◌, IfErr, IfOk, OnOk};
 ghost use Rattle.fork_program.specs.Keeping.{IsSaved};
 
-use crate::draft::{Draft, closed, drafted};
+use crate::draft::{Begun, Draft, closed, drafted};
 use crate::fault::Fault;
 use crate::roomy::Roomy;
-use crate::saving::{Settled, put};
+use crate::saving::{Settled, number_of, put};
+use crate::upload_log::{NotLogged, UploadLog};
 use chained_log::LogWriter;
 use fork_host::Host;
 use fork_wire::Written;
@@ -21,6 +22,9 @@ const SPARE: u64 = 1_048_576;
 // How many objects the requests of a journal may visit: about a second of work.
 const MOST_VISITED: u64 = 16_777_216;
 
+// Of so many frames it is copied what they have of uploads: less than half a second of work.
+const MOST_COPIED: u64 = 16_384;
+
 /// A folder that keeps a host: its state as it was last saved, and the journal of what was done since.
 #[derive(Drop)]
 pub struct Keep<'a, H> {
@@ -29,8 +33,13 @@ pub struct Keep<'a, H> {
     pub(crate) journal: Written<LogWriter<Roomy<File>>>,
     // The journal's name, which is that of the state in the folder.
     name: Name,
-    // How many bytes that state and the uploads at the start of the journal have.
-    saved: u64,
+    // How many bytes that state has.
+    len: u64,
+    // How many bytes the open uploads have in the log to which the journal refers, or at its beginning.
+    uploads: u64,
+    // The number of that log, 0 if there is none, and the log itself unless it could not be written.
+    number: u64,
+    log: Option<UploadLog>,
     // Whether its journals are synced.
     syncs: bool,
     pub(crate) reserve: Reserve,
@@ -74,7 +83,7 @@ impl<'a, H: Files<File = File> + AllocGlobal> Keep<'a, H> {
         ensures syncs { IfOk result (λ keep. (keep.syncs ≡ syncs) × (keep.journal.syncs ≡ syncs)) }
         ensures saved { IsSaved host.old host.new }
     {
-        match drafted(rt, alloc, dir, standing, host, &reserve) {
+        match drafted(rt, alloc, dir, standing, host, &reserve, None) {
             Ok(Some(draft)) => Keep::over(rt, alloc, dir, host, None, draft, syncs, reserve),
             Ok(None) => Err(Fault::NotSaved),
             Err(fault) => Err(fault),
@@ -96,11 +105,12 @@ impl<'a, H: Files<File = File> + AllocGlobal> Keep<'a, H> {
         ensures host { host.new ≡ host.old }
         ensures syncs { IfOk result (λ keep. (keep.syncs ≡ syncs) × (keep.journal.syncs ≡ syncs)) }
     {
-        let Settled {
+        let Settled { name, len, begun } = put(rt, alloc, dir, host, standing, draft, &reserve)?;
+        let Begun {
             journal,
-            name,
-            saved,
-        } = put(rt, alloc, dir, host, standing, draft, &reserve)?;
+            log,
+            uploads,
+        } = begun;
         let Ok(journal) = Written::new(alloc, journal, syncs) else {
             return Err(Fault::NotSaved);
         };
@@ -109,7 +119,10 @@ impl<'a, H: Files<File = File> + AllocGlobal> Keep<'a, H> {
             dir,
             journal,
             name,
-            saved,
+            len,
+            uploads,
+            number: number_of(&log),
+            log,
             syncs,
             reserve,
             due: Cell::new(None),
@@ -155,8 +168,45 @@ impl<'a, H: Files<File = File> + AllocGlobal> Keep<'a, H> {
     // Whether a start would take long to repeat the journal: by its bytes, or by the objects that its requests
     // visit.
     fn is_long<S: LooseFiles>(&self, host: &Host<S>) -> bool {
-        self.journal.bytes() > self.saved.max(SPARE)
+        self.journal.bytes() > self.len.saturating_add(self.uploads).max(SPARE)
             || self.journal.visits().saturating_mul(host.census()) > MOST_VISITED
+    }
+
+    // Whether the open uploads are to be in a log. Few bytes are spelled in each journal anew.
+    fn needs_log(&self) -> bool {
+        self.number != 0 || self.uploads.saturating_add(self.journal.bytes()) > SPARE
+    }
+
+    // Whether it takes less time to copy what the journal has of uploads than to begin a log anew.
+    fn is_copied(&self, log: &UploadLog) -> bool {
+        !log.is_long()
+            && self.journal.bytes() <= self.uploads
+            && self.journal.frames() <= MOST_COPIED
+    }
+
+    // The log of open uploads to which the next journal is to refer, if any. After an `Err` this journal goes on.
+    fn next_log<S: LooseFiles>(
+        &mut self,
+        alloc: Global,
+        host: &mut Host<S>,
+    ) -> Result<Option<UploadLog>, NotLogged>
+        ensures syncs { (self.new.journal ≡ self.old.journal) × (self.new.syncs ≡ self.old.syncs) }
+        ensures saved { IsSaved host.old host.new }
+    {
+        let log = self.log.take();
+        if !is_uploading(alloc, host) || !self.needs_log() {
+            return Ok(None);
+        }
+        if let Some(log) = log {
+            if self.is_copied(&log) {
+                let log = log.go_on(self.rt, alloc, self.dir, self.name)?;
+                return Ok(Some(log));
+            }
+        }
+        // The other one: this journal still refers to its own.
+        let number = if self.number == 1 { 2 } else { 1 };
+        let log = UploadLog::begin(self.rt, alloc, self.dir, number, host, &self.reserve)?;
+        Ok(Some(log))
     }
 
     /// Saves the host's state if the journal is long, or if anything was swept. The old state stays and its
@@ -182,10 +232,20 @@ impl<'a, H: Files<File = File> + AllocGlobal> Keep<'a, H> {
         let Ok(reserve) = self.reserve.share() else {
             return Ok(());
         };
-        let draft = match drafted(self.rt, alloc, self.dir, self.name, host, &self.reserve) {
-            Ok(Some(draft)) => draft,
-            Ok(None) => return Ok(()),
-            Err(fault) => return Err(fault),
+        let Ok(log) = self.next_log(alloc, host) else {
+            return Ok(());
+        };
+        let drafted = drafted(
+            self.rt,
+            alloc,
+            self.dir,
+            self.name,
+            host,
+            &self.reserve,
+            log,
+        )?;
+        let Some(draft) = drafted else {
+            return Ok(());
         };
         match Keep::over(
             self.rt,

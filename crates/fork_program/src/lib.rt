@@ -22,6 +22,7 @@ mod hash_object;
 mod hosts;
 mod keep;
 mod laws;
+mod log_reference;
 mod objects;
 mod one_after_another;
 mod open_connections;
@@ -42,6 +43,7 @@ mod telling;
 mod tenants;
 mod trial;
 mod upgrade;
+mod upload_log;
 
 pub use crate::cause::tell_cause;
 pub use crate::entry::{Untold, program};

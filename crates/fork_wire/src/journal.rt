@@ -77,6 +77,8 @@ pub struct Written<W> {
     // The frame that is being kept.
     frame: Vec<u8>,
     bytes: u64,
+    // How many frames were kept.
+    frames: u64,
     // How many of the frames visit all objects of a tenant when they are repeated.
     visits: u64,
     is_cut: bool,
@@ -91,7 +93,7 @@ impl<W: Write + Drop> Written<W> {
     /// Creates a journal that appends to what the writer has, and syncs the writer if `syncs`. All its memory
     /// is allocated here.
     pub fn new(alloc: Global, writer: W, syncs: bool) -> Result<Written<W>, AllocError>
-        ensures begins { IfOk result (λ journal. (journal.writer ≡ writer) × (journal.bytes ≡ 0) × (journal.is_cut ≡ false)) }
+        ensures begins { IfOk result (λ journal. (journal.writer ≡ writer) × (journal.bytes ≡ 0) × (journal.frames ≡ 0) × (journal.is_cut ≡ false)) }
         ensures syncs { IfOk result (λ journal. journal.syncs ≡ syncs) }
     {
         let frame = Vec::with_capacity(alloc, LONGEST_FRAME)?;
@@ -99,6 +101,7 @@ impl<W: Write + Drop> Written<W> {
             writer,
             frame,
             bytes: 0,
+            frames: 0,
             visits: 0,
             is_cut: false,
             syncs,
@@ -112,6 +115,13 @@ impl<W> Written<W> {
         ensures { result ≡ self.now.bytes }
     {
         self.bytes
+    }
+
+    /// How many frames were kept, up to 2^64 - 1.
+    pub fn frames(&self) -> u64
+        ensures { result ≡ self.now.frames }
+    {
+        self.frames
     }
 
     /// How many of the frames that were kept may visit all objects of a tenant when they are repeated. Such a
@@ -148,6 +158,7 @@ impl<W: SyncData> Journal for Written<W> {
             return Err(NotKept);
         };
         self.bytes = self.bytes.saturating_add(self.frame.len() as u64);
+        self.frames = self.frames.saturating_add(1);
         if visits_all(frame.payload.as_bytes()) {
             self.visits = self.visits.saturating_add(1);
         }

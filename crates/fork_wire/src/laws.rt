@@ -17,6 +17,7 @@ ghost use Rattle.fork_wire.specs.AtOnce.{EachIsHeardAtOnce, RoundsAreOne};
 ghost use Rattle.fork_wire.specs.Kept.{is_kept, kept_bytes, kept_of};
 ghost use Rattle.fork_wire.specs.Reopening.{ArePartFrames, Reopens, with_upload};
 ghost use Rattle.fork_wire.specs.Sessions.{IsAnswered, event_of, events_of, frames_of};
+ghost use Rattle.fork_wire.specs.UploadLog.{CopiesAreEnough};
 
 /// A law, with no code to run: frames that are repeated get the same replies and lead to the same world, if
 /// the stores are trusted and show the same world, and no host fault occurs. The exception is the numbers
@@ -75,6 +76,13 @@ pub fn all_uploads_open_again()
         → (replies : List Reply) × Explains (without_uploads world) (events_of frames) replies world × AreFine replies }
     ensures served { (world : World) (frames : List Frame) (old new : HostState) (replies : List Reply) → IsOrderlyWorld world → Reopens (uploads_of world) frames
         → IsAnswered old new frames replies → AreFine replies → Trusted old → world_of old ≡ without_uploads world → world_of new ≡ world }
+{}
+
+/// A law, with no code to run: what `copy_uploads` writes for the frames that a journal kept of a session opens the uploads
+/// that were open after it, in each world in which those are open that were open before it. Each of these frames is one
+/// that a journal keeps, so a repetition does not end at it.
+pub fn copied_frames_open_uploads_again()
+    ensures { CopiesAreEnough }
 {}
 
 /// A law, with no code to run: rounds of many connections, one after another, are one serving. All its

@@ -1,4 +1,4 @@
-use Rattle.std.proofs.Common.{rules, ap, ap₂, ◌≡◌, ◌∙◌}
+use Rattle.std.proofs.Common.{ap, ap₂, ◌≡◌, ◌∙◌}
 use Rattle.std.proofs.lemmas.Result.{IfOk-weaker}
 use Rattle.clap.specs.Words.{App, app_of, with_subcommand}
 use Rattle.fork_command.specs.Table.{check_app, hash_object_app, run_app, serve_app, top_app}
@@ -6,7 +6,7 @@ use Rattle.fork_command.proofs.table.serving.Goals as goal
 
 pub returns : goal.returns
 returns c =
-    let top_is : app_of c.disable_help_subcommand-top.result ≡ top_app = search rules in
+    let top_is = c.top.ensures.table in
     let first_is : app_of c.in_ok-subcommand.field-0 ≡ with_subcommand top_app hash_object_app.top =
     c.in_ok-subcommand.ensures.shape c.in_ok-hash_object.ensures.local ∙ ap₂ with_subcommand top_is (ap (λ (a : App). a.top) c.in_ok-hash_object.ensures.table) in
     let second_is : app_of c.in_ok-subcommand-2.field-0 ≡ with_subcommand (with_subcommand top_app hash_object_app.top) run_app.top =

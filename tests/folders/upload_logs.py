@@ -7,7 +7,7 @@ import shutil
 from folders.logs import UNREADABLE, show_told
 from folders.sweeps import HOST
 from lib.chained import LINE, NAMELESS, SUM, bounds, lines_of, log
-from lib.folder import Folder, content, write
+from lib.folder import END, Folder, content, write
 from lib.frames import frame, framed, frames, replies
 from lib.live import Serving
 from lib.objects import name_of, record
@@ -22,8 +22,6 @@ MIB, BLOB, COUNT, PART = 1 << 20, 100_000, 12, 400_000
 FEW = 20_000
 CALLS = "openat,read,pread64,readv,write,pwrite64,writev"
 CALL = re.compile(r"\d+ +(\w+)\((.*)\) += (\d+)")
-# What stands in a log for each end of an upload, and each drop.
-END = b"part-end .\n"
 OK = b"ok\n"
 
 
@@ -141,6 +139,25 @@ def show_appended(checks, program, work):
     host.save("a short one", (BOB, b"part\nabc"))
     checks.same("it has no log", ([], frame(BOB, b"part\nabc")), (folder.logs(), folder.journal()))
     host.kill()
+
+
+def show_ended(checks, program, work):
+    """Of an upload that ended in a log a start does nothing: what was swept stays away."""
+    for label, end in (("dropped", b"part-drop\n"), ("refused", b"part-end no\n")):
+        folder = without_reserve(os.path.join(work, label))
+        host = begun(checks, program, folder, work)
+        host.save(f"{label}: another upload is open", (BOB, b"part\n" + body_of("bob", 1) + b"rest"))
+        told, _ = replies(host.serving.told(frame(ALICE, end)))
+        checks.same(f"{label}: its end", OK if end == b"part-drop\n" else b"no no-repository no\n", *told)
+        host.save(f"{label}: what it left is swept")
+        checks.same(f"{label}: the log has it", True, folder.referred() is not None and len(folder.uploads()) > MIB)
+        host.kill()
+        left = {name_of(*blob("bob", 0))}
+        checks.same(f"{label}: what is left", left, set(folder.live()))
+        checks.same(f"{label}: check", sound(folder.again()), program.checked(folder.path))
+        census = program.ran("run", "--dir", folder.path, given=frame(HOST, b"census\n"))
+        checks.same(f"{label}: the census of a start", done(framed(b"ok\n1\n")), census)
+        checks.same(f"{label}: its files", left, set(folder.live()))
 
 
 LEFT = [(ALICE, body_of("alice", COUNT) + body_of("more", 2)[1:] + b"unfinished"), (BOB, body_of("bob", 3))]

@@ -21,7 +21,7 @@ use std::io;
 use std::io::{ErrorKind, Write};
 
 // A journal that is begun: the log of open uploads to which it refers, if there is one, and how many bytes the uploads
-// have in that log or at the journal's beginning.
+// had at the beginning of that log, or have at that of the journal.
 #[derive(Drop)]
 pub(crate) struct Begun {
     pub(crate) journal: LogWriter<Roomy<File>>,
@@ -136,7 +136,7 @@ fn with_uploads<H: Files<File = File> + AllocGlobal, S: LooseFiles>(
 {
     if let Some(log) = log {
         let reference = log.reference();
-        let uploads = reference.len;
+        let uploads = log.begun();
         let journal = unnamed(rt, alloc, dir, standing, name, reserve, Some(reference))?;
         let log = Some(log);
         return Ok(Begun {

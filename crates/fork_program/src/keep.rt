@@ -35,7 +35,7 @@ pub struct Keep<'a, H> {
     name: Name,
     // How many bytes that state has.
     len: u64,
-    // How many bytes the open uploads have in the log to which the journal refers, or at its beginning.
+    // How many bytes the open uploads had at the beginning of the log to which the journal refers, or have at its own.
     uploads: u64,
     // The number of that log, 0 if there is none, and the log itself unless it could not be written.
     number: u64,

@@ -7,13 +7,13 @@ use crate::telling::{of_again, of_journal};
 use crate::upload_log::open_log;
 use chained_log::{Ended, LogReader};
 use fork_host::Host;
-use fork_wire::serve_again;
+use fork_wire::{EndedUploads, reopen_uploads, serve_again};
 use git_name::Name;
 use loose_store::{LooseFiles, open_journal, open_old_journal};
 use std::alloc::Global;
 use std::fs::{File, Files};
 use std::io;
-use std::io::{BufReader, ErrorKind, Read};
+use std::io::{BufReader, ErrorKind};
 
 /// Repeats the requests of the journal of this name, and before them those of the log of open uploads to which it refers, up
 /// to its end or to where it was cut, and returns how many there were. An alteration is reported.
@@ -65,11 +65,38 @@ fn repeat<H: Files<File = File>, S: LooseFiles>(
     let Ok(mut log) = LogReader::new(alloc, reader, *name.as_bytes()) else {
         return Err(Fault::Memory);
     };
-    let count = repeat_log(alloc, &mut log, host)?;
-    Ok(before.saturating_add(count))
+    match serve_again(host, alloc, &mut log) {
+        // If more follows what is not a frame, the log was not cut there.
+        Ok(_) if log.ended().is_none() => Err(Fault::Journal),
+        Ok(count) => Ok(before.saturating_add(count)),
+        Err(fault) => Err(of_again(fault)),
+    }
 }
 
-// Repeats the requests of the log of open uploads to which a journal refers.
+// Reads the log of open uploads to which a journal refers, if it is whole: what of it was ended.
+fn ended_in<H: Files<File = File>>(
+    rt: &H,
+    alloc: Global,
+    dir: &str,
+    reference: &LogReference,
+) -> Result<EndedUploads, Fault>
+    ensures { IfErr result IsUnkept }
+{
+    let mut log = match open_log(rt, alloc, dir, reference) {
+        Ok(log) => log,
+        Err(error) => return Err(of_file(&error)),
+    };
+    let ended = match EndedUploads::read(alloc, &mut log) {
+        Ok(ended) => ended,
+        Err(fault) => return Err(of_again(fault)),
+    };
+    match log.ended() {
+        Some(Ended::Whole) if Name::new(*log.sum()) == reference.sum => Ok(ended),
+        _ => Err(Fault::Journal),
+    }
+}
+
+// Repeats the requests of the log of open uploads to which a journal refers, if it is whole.
 fn repeat_uploads<H: Files<File = File>, S: LooseFiles>(
     rt: &H,
     alloc: Global,
@@ -79,28 +106,12 @@ fn repeat_uploads<H: Files<File = File>, S: LooseFiles>(
 ) -> Result<u64, Fault>
     ensures { IfErr result IsUnkept }
 {
+    let mut ended = ended_in(rt, alloc, dir, reference)?;
     let mut log = match open_log(rt, alloc, dir, reference) {
         Ok(log) => log,
         Err(error) => return Err(of_file(&error)),
     };
-    let count = repeat_log(alloc, &mut log, host)?;
-    match log.ended() {
-        Some(Ended::Whole) if Name::new(*log.sum()) == reference.sum => Ok(count),
-        _ => Err(Fault::Journal),
-    }
-}
-
-// Repeats the requests of a log.
-fn repeat_log<R: Read + Drop, S: LooseFiles>(
-    alloc: Global,
-    log: &mut LogReader<R>,
-    host: &mut Host<S>,
-) -> Result<u64, Fault>
-    ensures { IfErr result IsUnkept }
-{
-    match serve_again(host, alloc, log) {
-        // If more follows what is not a frame, the log was not cut there.
-        Ok(_) if log.ended().is_none() => Err(Fault::Journal),
+    match reopen_uploads(host, alloc, &mut log, &mut ended) {
         Ok(count) => Ok(count),
         Err(fault) => Err(of_again(fault)),
     }

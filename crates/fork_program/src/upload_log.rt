@@ -158,6 +158,11 @@ impl UploadLog {
         Ok(())
     }
 
+    /// How many bytes it had when it was begun.
+    pub(crate) fn begun(&self) -> u64 {
+        self.begun
+    }
+
     /// Which log it is, and what it has now.
     pub(crate) fn reference(&self) -> LogReference {
         LogReference {

@@ -74,8 +74,8 @@ pub fn serve_again<S: LooseFiles, R: Read>(
     Err(AgainFault::Read)
 }
 
-// Answers a request, and returns whether a journal would keep it. Reports only host faults.
-fn answer_again<S: LooseFiles>(
+/// Answers a request, and returns whether a journal would keep it. Reports only host faults.
+pub(crate) fn answer_again<S: LooseFiles>(
     host: &mut Host<S>,
     alloc: Global,
     frame: Frame,

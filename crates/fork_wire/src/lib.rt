@@ -5,6 +5,7 @@
 
 mod again;
 mod at_once;
+mod ended_uploads;
 mod fault;
 mod isolation;
 mod journal;
@@ -16,6 +17,7 @@ mod upload_log;
 
 pub use crate::again::{AgainFault, serve_again};
 pub use crate::at_once::serve_round;
+pub use crate::ended_uploads::{EndedUploads, reopen_uploads};
 pub use crate::fault::SessionFault;
 pub use crate::isolation::two_sessions_agree;
 pub use crate::journal::{Journal, NoJournal, NotKept, Written};

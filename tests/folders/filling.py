@@ -264,3 +264,41 @@ def show_small(checks, program, work):
         checks.same("a session of run", done(framed(OK) * 3), program.ran("run", "--dir", host.folder.path, given=given))
         checks.same("check", sound(), program.checked(host.folder.path))
         checks.same("they make none", False, os.path.lexists(host.folder.inside("reserve")))
+
+
+def show_full_logs(checks, program, work):
+    """There is no room for a log of uploads: it takes the reserve. Where there is none, serving may end, and nothing is lost."""
+    for label, length in (("a reserve", 120 << 20), ("no reserve", 40 << 20)):
+        os.mkdir(place := os.path.join(work, label.replace(" ", "-")))
+        with disk(program, place, length) as path:
+            host = Filled(checks, program, Folder(os.path.join(path, "host")), place, [])
+            host.start(*TENANTS)
+            checks.same("repositories", [OK, OK], [host.asked(ALICE, b"init r\n"), host.asked(BOB, b"init b\n")])
+            checks.same("an object", OK, host.asked(BOB, b"push b\n\n" + record(b"blob", b"bob's")))
+            host.others(label, 2)
+            show_full_log(host, label, path)
+
+
+def show_full_log(host, label, path):
+    """An upload comes, a part of it in a log; then the disk is full but for less than the rest."""
+    checks, blobs = host.checks, [(b"blob", host.chance.randbytes(400_000)) for _ in range(6)]
+    body = b"\n" + b"".join(record(*blob) for blob in blobs)
+    checks.same(f"{label}: an upload", {OK}, {host.asked(ALICE, b"part\n" + body[at : at + 400_000]) for at in range(0, len(body), 400_000)})
+    checks.same(f"{label}: what is to be swept", [OK] * 2, [host.asked(BOB, b"push b\n\n" + record(b"blob", b"spare")), host.asked(BOB, b"prune\n")])
+    fill(os.path.join(path, "beside"), 1 << 19)
+    checks.same(f"{label}: it is swept", b"ok\n1\n", host.asked(HOST, b"collect\n"))
+    if label == "a reserve":
+        host.others(f"{label}, with a log", 20)
+        checks.same(f"{label}: it is given back", GIVEN_BACK, held(host.folder))
+        checks.same(f"{label}: a log has the upload", True, len(host.folder.uploads()) >= len(body))
+        host.killed(label, GIVEN)
+    else:
+        host.serving.child.kill()
+        ended(host.serving.child)
+    checks.same(f"{label}: check", sound(host.folder.again()), host.program.checked(host.folder.path))
+    os.remove(os.path.join(path, "beside"))
+    host.start()
+    host.others(f"{label}, again", 2)
+    checks.same(f"{label}: the upload goes on", OK, host.asked(ALICE, b"part-end r\n"))
+    host.objects = {name_of(*blob): blob[1] for blob in blobs}
+    host.whole(f"{label}, at last")

@@ -8,7 +8,7 @@ import time
 
 from folders.journals import killed
 from folders.sweeps import HOST
-from folders.upload_logs import ALICE, BOB, COUNT, ZOE, Traced, blob, body_of, parts_of
+from folders.upload_logs import ALICE, BOB, COUNT, ZOE, Traced, blob, body_of, parts_of, without_reserve
 from lib.folder import Folder, content
 from lib.frames import frames, replies
 from lib.live import Live, Serving, to_end
@@ -101,7 +101,7 @@ class Life:
 
     def __init__(self, checks, program, work, seed):
         self.checks, self.program, self.work, self.chance = checks, program, work, random.Random(seed)
-        self.folder, self.known, self.asked = Folder(os.path.join(work, "kept")), Known(checks, program), INITS
+        self.folder, self.known, self.asked = without_reserve(os.path.join(work, "kept")), Known(checks, program), INITS
         self.spares, self.logs = 0, set()
         self.start(GRANTS)
         connect(self.serving, INITS)
@@ -179,7 +179,7 @@ def saving_calls(checks, program, folder, work):
 
 def show_killed_savings(checks, program, work):
     """By strace a host is killed at calls of savings that write logs of uploads: of each kind at the first, the last, and one between."""
-    base, known = Folder(os.path.join(work, "base")), Known(checks, program)
+    base, known = without_reserve(os.path.join(work, "base")), Known(checks, program)
     live = Live(program, "--dir", base.path, *GRANTS)
     checks.same("uploads", {b"ok\n"}, {live.asked(*turn) for turn in OPENED})
     killed(live)

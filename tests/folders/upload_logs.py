@@ -7,7 +7,7 @@ import shutil
 from folders.logs import UNREADABLE, show_told
 from folders.sweeps import HOST
 from lib.chained import LINE, NAMELESS, SUM, bounds, lines_of, log
-from lib.folder import Folder, content, write
+from lib.folder import END, Folder, content, write
 from lib.frames import frame, framed, frames, replies
 from lib.live import Serving
 from lib.objects import name_of, record
@@ -22,8 +22,6 @@ MIB, BLOB, COUNT, PART = 1 << 20, 100_000, 12, 400_000
 FEW = 20_000
 CALLS = "openat,read,pread64,readv,write,pwrite64,writev"
 CALL = re.compile(r"\d+ +(\w+)\((.*)\) += (\d+)")
-# What stands in a log for each end of an upload, and each drop.
-END = b"part-end .\n"
 OK = b"ok\n"
 
 
@@ -66,6 +64,13 @@ class Uploading:
         self.serving.child.communicate()
 
 
+def without_reserve(path):
+    """A folder whose host makes no reserve: to write and copy that would take most of the time."""
+    folder = Folder(path)
+    os.mkdir(folder.inside("reserve"))
+    return folder
+
+
 def begun(checks, program, folder, work):
     """A host of two tenants, of which one has an upload in a log."""
     host = Uploading(checks, program, folder, work)
@@ -98,7 +103,7 @@ def show_small_savings(checks, program, work):
     """By strace: a saving reads nothing of an upload that is in a log, and writes nothing of it."""
     if not shutil.which("strace"):
         raise OSError("there is no strace, by which calls are seen")
-    folder, calls = Folder(os.path.join(work, "kept")), os.path.join(work, "calls")
+    folder, calls = without_reserve(os.path.join(work, "kept")), os.path.join(work, "calls")
     host = begun(checks, Traced(program, calls, "-e", f"trace={CALLS}"), folder, work)
     files = {folder.place_of(name_of(*blob("alice", number)))[0] for number in range(COUNT)}
     before = os.path.getsize(calls)
@@ -115,7 +120,7 @@ def show_small_savings(checks, program, work):
 
 def show_appended(checks, program, work):
     """What came of uploads is appended to the log, until that is 1 MiB longer than it was; then the other file has all anew."""
-    folder = Folder(os.path.join(work, "kept"))
+    folder = without_reserve(os.path.join(work, "kept"))
     host = begun(checks, program, folder, work)
     first, length = log_of(folder), log_of(folder).length
     checks.same("there is one log", [first.number], folder.logs())
@@ -136,13 +141,32 @@ def show_appended(checks, program, work):
     host.kill()
 
 
+def show_ended(checks, program, work):
+    """Of an upload that ended in a log a start does nothing: what was swept stays away."""
+    for label, end in (("dropped", b"part-drop\n"), ("refused", b"part-end no\n")):
+        folder = without_reserve(os.path.join(work, label))
+        host = begun(checks, program, folder, work)
+        host.save(f"{label}: another upload is open", (BOB, b"part\n" + body_of("bob", 1) + b"rest"))
+        told, _ = replies(host.serving.told(frame(ALICE, end)))
+        checks.same(f"{label}: its end", OK if end == b"part-drop\n" else b"no no-repository no\n", *told)
+        host.save(f"{label}: what it left is swept")
+        checks.same(f"{label}: the log has it", True, folder.referred() is not None and len(folder.uploads()) > MIB)
+        host.kill()
+        left = {name_of(*blob("bob", 0))}
+        checks.same(f"{label}: what is left", left, set(folder.live()))
+        checks.same(f"{label}: check", sound(folder.again()), program.checked(folder.path))
+        census = program.ran("run", "--dir", folder.path, given=frame(HOST, b"census\n"))
+        checks.same(f"{label}: the census of a start", done(framed(b"ok\n1\n")), census)
+        checks.same(f"{label}: its files", left, set(folder.live()))
+
+
 LEFT = [(ALICE, body_of("alice", COUNT) + body_of("more", 2)[1:] + b"unfinished"), (BOB, body_of("bob", 3))]
 ASKS = [(who, ask) for who in (ALICE, BOB) for ask in (b"push r\n\n", b"part\n", b"part-end r\n", b"quota\n")]
 
 
 def logged(checks, program, work):
     """A folder that a kill left, with a log of uploads and a journal after it; and the log as it was before."""
-    folder = Folder(os.path.join(work, "base"))
+    folder = without_reserve(os.path.join(work, "base"))
     host = begun(checks, program, folder, work)
     early = content(folder.uploads_path(log_of(folder).number))
     host.save("a second tenant", *parts_of(BOB, b"\nwrong"), (BOB, b"part-drop\n"), *parts_of(ALICE, body_of("more", 2)[1:]))
@@ -276,6 +300,7 @@ def show_logs_go(checks, program, work):
     show_told_as_before(checks, Program(program.path), "repack", folder)
     checks.same("no log after an end", ([], b""), (folder.logs(), folder.journal()))
     folder = copy("serve")
+    os.rmdir(folder.inside("reserve"))
     serving = Serving(program, os.path.join(work, "socket"), 1, "--dir", folder.path)
     checks.same("a start removes the log", ([], None), (folder.logs(), folder.referred()))
     told = serving.told(frame(ALICE, b"push r\n\n"))

@@ -19,6 +19,21 @@ def requests_in(stream):
     return found
 
 
+# What stands in a log of uploads for the end of one.
+END = b"part-end .\n"
+
+
+def still_open(frames):
+    """Of each tenant the frames of a log of uploads after its last end."""
+    found, ended = [], set()
+    for frame in reversed(frames):
+        who, _, payload = frame.partition(b"\n")
+        who = who.split(b" ")[0]
+        ended |= {who} if payload == END else set()
+        found += [] if who in ended else [frame]
+    return found[::-1]
+
+
 def content(path):
     with open(path, "rb") as file:
         return file.read()
@@ -113,13 +128,14 @@ class Folder:
         return b"".join(pieces)
 
     def journal(self):
-        """The frames that a start does again: those of a log of uploads, and those of the journal, which must be right to its end."""
+        """The frames that a start does again: those of uploads in a log that are still open, and those of the journal, which must be
+        right to its end."""
         if not os.path.exists(self.journal_path()):
             return content(self.old_journal_path()) if os.path.exists(self.old_journal_path()) else b""
         pieces, end = pieces_in(self.name(), self.log())
         if end == "altered":
             raise ValueError(f"{self.journal_path()} is altered")
-        return self.uploads() + b"".join(pieces)
+        return b"".join(still_open(requests_in(self.uploads())) + pieces)
 
     def set_journal(self, stream):
         """Writes a journal of these bytes, with right sums."""

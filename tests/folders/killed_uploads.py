@@ -144,10 +144,10 @@ def show_killed_uploads(checks, program, work):
 NAMES = "openat,write,writev,pwrite64,ftruncate,rename,renameat,renameat2,unlink,unlinkat,fsync,fdatasync"
 LINE = re.compile(r"^\d+ +(\w+)\(", re.MULTILINE)
 OPENED = [*INITS, *parts_of(ALICE, body_of("alice", COUNT)), (BOB, b"part\nabc")]
-MORE = parts_of(ALICE, body_of("more", 24)[1:])
+FEW, MANY = (parts_of(ALICE, body_of(f"{count} more", count)[1:]) for count in (3, COUNT + 1))
 QUOTA = [(ZOE, b"quota\n")]
 # Connections, each of which ends with a saving: a log is begun; it is appended to; the other one is begun; none is left.
-SAVED = [sweep(1), [(BOB, b"part-drop\n"), *MORE, *sweep(2)], [(BOB, b"part\nabc"), *sweep(3)], [(ALICE, b"part-drop\n"), (BOB, b"part-drop\n"), *sweep(4)]]
+SAVED = [sweep(1), [(BOB, b"part-drop\n"), *FEW, *sweep(2)], [(BOB, b"part\nabc"), *MANY, *sweep(3)], [(ALICE, b"part-drop\n"), (BOB, b"part-drop\n"), *sweep(4)]]
 LOGS = [[1], [1], [2], []]
 
 

@@ -18,11 +18,12 @@ NEAR = 12
 GENERATIONS = 2
 
 class Way(NamedTuple):
-    """How hosts serve, whether their folders are repacked between, which kinds of syncs they make, how many folders are judged of
+    """How hosts serve, whether their folders are repacked between, whether they have a long upload, which kinds of syncs they make, how many folders are judged of
     each recording, how many are made without the syncs of one kind until one is wrong, and where wrong ones are kept."""
 
     sync: list
     repacks: bool
+    uploads: bool
     kinds: list
     folders: int
     tries: int

@@ -10,6 +10,7 @@ from folders.killing import HOST, TENANTS, Life, tell
 from lib.checks import Checks
 from lib.frames import frames
 from lib.live import Serving, to_end
+from lib.objects import record
 from losses.calls import Traced
 from losses.past import Past
 
@@ -22,6 +23,9 @@ KILLED = 0.6
 # Who pushes an object again and again, and how it goes between.
 WHO = b"dave"
 AWAY = [(WHO, b"prune\n"), (HOST, b"collect\n")]
+# An upload that is longer than 1 MiB, and a part more.
+WIDE = record(b"blob", bytes(range(256)) * 4300)
+UPLOAD = [(b"carol", b"part-drop\n"), (b"carol", b"part\n\n" + WIDE[:600_000]), (b"carol", b"part\n" + WIDE[600_000:]), (b"carol", b"part\n" + WIDE[:300])]
 
 
 def read_tree(path):
@@ -65,6 +69,7 @@ class Recording:
 
     def __init__(self, program, work, chance, tree, way):
         self.program, self.chance, self.sync, self.repacks = Traced(program, work), chance, way.sync, way.repacks
+        self.uploads = way.uploads
         self.is_run = takes(program, "run", self.sync)
         # Sockets have short paths.
         self.path, self.socket = os.path.join(work, "disk"), os.path.join(work, "s")
@@ -101,6 +106,9 @@ class Recording:
         if self.chance.random() < 0.5:
             at = self.chance.randint(0, len(asked))
             asked[at:at] = self.pushed + (AWAY + self.pushed) * self.chance.randint(1, 2)
+        if self.uploads:
+            # A sweep at its end, after which the state is saved.
+            asked[len(asked) // 2 :] = self.chance.choice([UPLOAD, UPLOAD[-1:]]) + self.pushed + AWAY
         return asked
 
     def first(self, leg):

@@ -5,7 +5,7 @@ from concurrent.futures import ProcessPoolExecutor
 from itertools import repeat
 
 from losses.lives import Found, Life, Way
-from losses.syncing import BESIDE, LOOSE, PACKED, REPACKED
+from losses.syncing import BESIDE, LOG, LOOSE, PACKED, REPACKED
 
 LIVES, FOLDERS, TRIES = 20, 40, 6
 # A folder in memory, where a sync costs nothing, is used if there is so much space.
@@ -44,12 +44,15 @@ def found_of(program, seed, way):
     return found
 
 
-def show(checks, program, label, seed, sync, kept, repacks=False):
-    """All lives of hosts that serve in one way. Where folders are repacked between, half as many, and four times the tries: few
+def show(checks, program, label, seed, sync, kept, repacks=False, uploads=False):
+    """All lives of hosts that serve in one way. With long uploads a few, of which only the sync of their logs is left out. Where folders are repacked between, half as many, and four times the tries: few
     moments are such that a repack has no sync to spare."""
     kinds = REPACKED if repacks else [*(PACKED if program.more else LOOSE), *BESIDE]
     lives, tries = (LIVES // 2, TRIES * 4) if repacks else (LIVES, TRIES)
-    found, way = Found(), Way(sync, repacks, kinds, FOLDERS, tries, kept)
+    folders = FOLDERS
+    if uploads:
+        kinds, lives, folders = [LOG], LIVES // 5, FOLDERS // 2
+    found, way = Found(), Way(sync, repacks, uploads, kinds, folders, tries, kept)
     with ProcessPoolExecutor(os.cpu_count()) as pool:
         for one in pool.map(found_of, repeat(program), (f"{label}, {seed}.{number}" for number in range(lives)), repeat(way)):
             found.add(one)

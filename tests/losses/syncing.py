@@ -8,6 +8,7 @@ OBJECTS, FRONTS, FOLDER = "objects", "the folders of objects", "the folder of th
 SEGMENTS, SEGMENT = "segments", "the folder of segments"
 # All that `repack` makes. Its files keep the name under which they were made: that of their folder changes.
 MADE = "what is repacked"
+LOG = "logs of uploads"
 JOURNALS, JOURNAL, STATES, HOST = "journals", "the folder of journals", "states", "the folder of a host"
 LOOSE, PACKED, REPACKED = [OBJECTS, FRONTS, FOLDER], [SEGMENTS, SEGMENT], [MADE]
 BESIDE = [JOURNALS, JOURNAL, STATES, HOST]
@@ -39,7 +40,7 @@ def kind_of(place):
         return [None, OBJECTS][len(place) - 1]
     if place[:1] == (b"journal",):
         return [JOURNAL, JOURNALS][len(place) - 1]
-    return {(): HOST, (b"state",): STATES, (b"part",): STATES}.get(place)
+    return {(): HOST, (b"state",): STATES, (b"part",): STATES, (b"uploads.1",): LOG, (b"uploads.2",): LOG}.get(place)
 
 
 def without(past, kind):

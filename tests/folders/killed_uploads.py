@@ -141,7 +141,7 @@ def show_killed_uploads(checks, program, work):
     checks.same("logs were there", True, bool(life.logs))
 
 
-NAMES = "openat,write,writev,pwrite64,ftruncate,rename,renameat,renameat2,unlink,unlinkat,fsync,fdatasync"
+NAMES = "write,writev,pwrite64,ftruncate,rename,renameat,renameat2,unlink,unlinkat,fsync,fdatasync"
 LINE = re.compile(r"^\d+ +(\w+)\(", re.MULTILINE)
 OPENED = [*INITS, *parts_of(ALICE, body_of("alice", COUNT)), (BOB, b"part\nabc")]
 FEW, MANY = (parts_of(ALICE, body_of(f"{count} more", count)[1:]) for count in (3, COUNT + 1))
@@ -171,14 +171,14 @@ def saving_calls(checks, program, folder, work):
         after = counts_of(path)
         for name in sorted(after):
             calls = range(before[name] + 1, after[name] + 1)
-            some = {calls[0], calls[len(calls) // 2], calls[-1]} if calls else ()
+            some = {calls[0], calls[-1]} if calls else ()
             found += [(number, name, at) for at in sorted(some)]
     serving.child.kill()
     return found
 
 
 def show_killed_savings(checks, program, work):
-    """By strace a host is killed at calls of savings that write logs of uploads: of each kind at the first, the last, and one between."""
+    """By strace a host is killed at calls of savings that write logs of uploads: of each kind at the first and the last."""
     base, known = without_reserve(os.path.join(work, "base")), Known(checks, program)
     live = Live(program, "--dir", base.path, *GRANTS)
     checks.same("uploads", {b"ok\n"}, {live.asked(*turn) for turn in OPENED})

@@ -5,22 +5,35 @@ from hashlib import sha256
 
 from .files import synced, written
 
-# One byte of the kind, four of the length, and a name.
-TITLE, LENGTH, SUM = 37, 5, 32
-NO_NAME = bytes(32)
+# The kind of an object whose length is in the same two bytes as its kind, and from which on no length is.
+SHORT, LONG = b"\x80", 1 << 15
+NAME, SUM = 32, 32
+NO_NAME = bytes(NAME)
 FULL = 1 << 28
 
 
-def title(kind: bytes, length: int, name: bytes) -> bytes:
-    return kind + length.to_bytes(4, "big") + name
+def title(length: int, name: bytes) -> bytes:
+    """The title of an object."""
+    return ((LONG + length).to_bytes(2, "big") if length < LONG else b"o" + length.to_bytes(4, "big")) + name
+
+
+def title_at(stream, at: int) -> tuple:
+    """The kind, the length and the name at this place, and where the bytes of the record begin. No kind if these are not there."""
+    if stream[at : at + 1] >= SHORT:
+        kind, size, begin = SHORT, int.from_bytes(stream[at : at + 2], "big") - LONG, at + 2 + NAME
+    else:
+        kind, size, begin = stream[at : at + 1], int.from_bytes(stream[at + 1 : at + 5], "big"), at + 5 + NAME
+    return kind if begin <= len(stream) else b"", size, stream[begin - NAME : begin], begin
 
 
 def record_at(stream, at: int) -> "tuple | None":
     """The kind and the name of the record at this place, where its bytes begin and how many they are, and where it ends."""
-    kind, size = stream[at : at + 1], int.from_bytes(stream[at + 1 : at + LENGTH], "big")
-    name, begin, end = stream[at + LENGTH : at + TITLE], at + TITLE, at + TITLE + size
-    if kind not in (b"o", b"f", b"r", b"s", b"u") or end > len(stream):
+    kind, size, name, begin = title_at(stream, at)
+    end = begin + size
+    if kind not in (b"o", b"f", b"r", b"s", b"u", SHORT) or end > len(stream):
         return None
+    if kind == SHORT:
+        kind = b"o"
     if kind == b"o":
         return (kind, name, begin, size, end) if sha256(stream[begin:end]).digest() == name else None
     is_right = (kind == b"f" or not size) and (kind not in (b"s", b"u") or name == NO_NAME)
@@ -31,9 +44,9 @@ def record_at(stream, at: int) -> "tuple | None":
 
 def claimed_end(stream, at: int) -> "int | None":
     """Where a damaged record ends, if its title says how long it is, and all of it is there."""
-    kind, size = stream[at : at + 1], int.from_bytes(stream[at + 1 : at + LENGTH], "big")
-    more = {b"o": size, b"f": size + SUM, b"r": SUM, b"s": SUM, b"u": SUM}.get(kind)
-    return at + TITLE + more if more is not None and at + TITLE + more <= len(stream) else None
+    kind, size, _, begin = title_at(stream, at)
+    more = {SHORT: size, b"o": size, b"f": size + SUM, b"r": SUM, b"s": SUM, b"u": SUM}.get(kind)
+    return begin + more if more is not None and begin + more <= len(stream) else None
 
 
 class Segments:
@@ -68,8 +81,9 @@ class Segments:
         self.found = {name: rest for name, (kind, *rest) in {**pending, **live}.items() if kind == b"o"}
 
     def records(self, number: int):
-        """The whole records of a segment; none if it is empty or not there. A damaged one is passed over. After it only objects
-        count, whose names are their hashes: if its length was damaged, what follows may be bytes that a tenant chose."""
+        """The whole records of a segment; none if it is empty or not there. A damaged one counts as one that undoes removals. After
+        it only objects count, whose names are their hashes: if its length was damaged, what follows may be bytes that a tenant
+        chose."""
         if not os.path.isfile(self.file_of(number)) or not os.path.getsize(self.file_of(number)):
             return
         with open(self.file_of(number), "rb") as file, mmap.mmap(file.fileno(), 0, access=mmap.ACCESS_READ) as stream:
@@ -78,7 +92,9 @@ class Segments:
                 one = record_at(stream, at)
                 if one and (one[0] == b"o" or not is_damaged):
                     yield one[:-1]
-                is_damaged = is_damaged or not one
+                if not one and claimed_end(stream, at) is not None:
+                    yield b"u", b""
+                    is_damaged = True
                 at = one[-1] if one else claimed_end(stream, at)
 
     def read(self, name: str) -> "bytes | None":
@@ -113,7 +129,8 @@ def one_segment(first: tuple, rows):
     size, row = 0, first
     while row is not None:
         name, data = row
-        yield title(b"o", len(data), bytes.fromhex(name))
+        head = title(len(data), bytes.fromhex(name))
+        yield head
         yield data
-        size += TITLE + len(data)
+        size += len(head) + len(data)
         row = next(rows, None) if size < FULL else None

@@ -30,7 +30,7 @@ def pushed(world, number):
 
 def show_users(checks, program, folder):
     """Each of 20 clones and 20 pushes at once ends as it does alone, but for a push that another one was faster than; and
-    all of them take no longer than one after another."""
+    all of them take hardly longer than one after another."""
     world = World(checks, program.with_words(serve=("--at-once", "64")), folder)
     world.init("alice", "r")
     world.repository("source")
@@ -47,5 +47,5 @@ def show_users(checks, program, folder):
     for number, ran in enumerate(pushes):
         checks.holds(f"push {number} of many", None if ran.status == 0 or SLOWER in ran.output else ran)
     checks.same("one of them is there", True, any(ran.status == 0 for ran in pushes))
-    checks.holds("they take no longer than alone", None if seconds <= own else f"{seconds:.1f} seconds, and not {own:.1f}")
+    checks.holds("they take hardly longer than alone", None if seconds <= 1.5 * own else f"{seconds:.1f} seconds, and not {own:.1f}")
     world.host.ends_well(checks, "after many users")

@@ -7,6 +7,7 @@ import subprocess
 import sys
 import tempfile
 import time
+from contextlib import contextmanager
 from pathlib import Path
 
 from deeds.deed import do
@@ -53,18 +54,37 @@ def unbuilt(crate):
     return [it.name for it in crate.below() if not is_built(it)]
 
 
+@contextmanager
+def done(crate, deeds):
+    """A copy of a crate's code in which these deeds are done, as long as it is used."""
+    with tempfile.TemporaryDirectory() as room:
+        for part in PARTS:
+            if os.path.isdir(f"{crate.folder}/{part}"):
+                shutil.copytree(f"{crate.folder}/{part}", f"{room}/{part}")
+        do(deeds, Path(room))
+        yield room
+
+
+def words_of(crate):
+    """The words of a check of this crate."""
+    return [rtlib.RATTLE, "check", *crate.words(["--jobs", "1"], keeps=False)]
+
+
+def compiled(crate, deeds):
+    """Whether these deeds compile together, and what the compiler says of them. No contract is tried."""
+    with done(crate, deeds) as room:
+        ran = subprocess.run([*GUARDED, *words_of(crate), "--only", ""], cwd=room, capture_output=True, text=True, errors="replace")
+    return ran.returncode == 0, ran.stdout + ran.stderr
+
+
 def checked(crate, deeds, kept, end):
     """What a check says of the functions that the deeds change, or None if it has not ended at the time `end`, and the seconds of a
     processor that it took. What it proves is kept, for the next check of this crate."""
     functions = sorted(set().union(*(it.functions for it in deeds)))
     only = [f"--only={crate.name}::{it}" for it in functions]
     longest = max(1, min(LONGEST, end - time.monotonic()))
-    words = ["timeout", "--foreground", str(longest), rtlib.RATTLE, "check", *crate.words(["--jobs", "1"], keeps=False), "--incremental", str(kept), *only]
-    with tempfile.TemporaryDirectory() as room:
-        for part in PARTS:
-            if os.path.isdir(f"{crate.folder}/{part}"):
-                shutil.copytree(f"{crate.folder}/{part}", f"{room}/{part}")
-        do(deeds, Path(room))
+    words = ["timeout", "--foreground", str(longest), *words_of(crate), "--incremental", str(kept), *only]
+    with done(crate, deeds) as room:
         how = {"stdin": subprocess.DEVNULL, "stdout": subprocess.PIPE, "stderr": subprocess.STDOUT}
         ran = subprocess.Popen([*GUARDED, *words], cwd=room, errors="replace", **how)
         text = ran.stdout.read()

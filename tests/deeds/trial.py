@@ -3,8 +3,8 @@ from pathlib import Path
 
 from deeds.deed import Deed, batches_of, read_deed
 from deeds.kept import Kept
-from deeds.kit import unbuilt
-from deeds.verdict import REFUSED, SPOILED, UNSETTLED, told_in, verdict_on
+from deeds.kit import compiled, unbuilt
+from deeds.verdict import REFUSED, SPOILED, UNSETTLED, spoiled, told_in, verdict_on
 
 FOLDERS = ("wrong", "must-fail")
 NOT_TRIED = "not tried"
@@ -13,6 +13,11 @@ NOT_TRIED = "not tried"
 def edits_of(crate):
     """The files of a crate's wrong deeds."""
     return sorted(it for folder in FOLDERS for it in Path(crate.folder, folder).rglob("*") if it.is_file())
+
+
+def halves(deeds):
+    """These deeds in two batches."""
+    return [deeds[: len(deeds) // 2], deeds[len(deeds) // 2 :]]
 
 
 class Trial:
@@ -45,6 +50,19 @@ class Trial:
             else:
                 deeds.append(deed)
         return deeds
+
+    def compile(self):
+        """Reports the deeds that cannot be tried, and those that do not compile. It tries none."""
+        left = batches_of(self.read())
+        while left:
+            deeds = left.pop()
+            does, text = compiled(self.crate, deeds)
+            if does:
+                self.passed += len(deeds)
+            elif len(deeds) > 1:
+                left += halves(deeds)
+            else:
+                self.tell(deeds[0], *spoiled(text))
 
     def begin(self):
         self.left, self.kept = batches_of(self.read()), Kept()
@@ -95,7 +113,7 @@ class Trial:
         told = told_in(self.crate.name, text)
         found = [(it, *verdict_on(it, told, text)) for it in deeds]
         if len(deeds) > 1 and found[0][1] == SPOILED:
-            return [deeds[: len(deeds) // 2], deeds[len(deeds) // 2 :]]
+            return halves(deeds)
         again = [it for it, kind, _ in found if len(deeds) > 1 and kind == UNSETTLED]
         for it in found:
             if it[0] not in again:

@@ -72,10 +72,15 @@ def judged(function, told):
     return UNSETTLED, f"{function}: only through a callee: {told.line[:160]}"
 
 
+def spoiled(text):
+    """Why a deed does not reach the prover."""
+    said = next((it.strip() for it in text.split("\n") if "error" in it), text.strip()[-200:])
+    return SPOILED, f"it does not reach the prover: {said[:200]}"
+
+
 def verdict_on(deed, told, text):
     """What became of a deed, and why: each function that it changes must be refused itself."""
     if not told:
-        said = next((it.strip() for it in text.split("\n") if "error" in it), text.strip()[-200:])
-        return SPOILED, f"it does not reach the prover: {said[:200]}"
+        return spoiled(text)
     found = [judged(it, told.get(it, Told())) for it in sorted(deed.functions)]
     return min(found, key=lambda it: (LET_THROUGH, UNSETTLED, REFUSED).index(it[0]))

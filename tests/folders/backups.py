@@ -5,7 +5,6 @@ copy has to be the host as it was when its journal was copied. The same commands
 state, make a copy that is refused or lacks something."""
 import os
 import random
-import re
 import select
 import socket
 import subprocess
@@ -110,11 +109,9 @@ class Copying:
                 file.write(text)
             os.chmod(os.path.join(tools, name), 0o700)
         page = commands(block("docs/OPERATING.md", "Backup", "forkhost check"))
-        script = change(page)
-        self.is_changed = script != page
-        if busy.folder.segments():
-            script = re.sub(r"\bobjects\b", "segments", script)
-        self.script = script.replace("/var/lib/forkhost/host", busy.folder.path).replace("/backup/host", self.place)
+        self.script = change(page)
+        self.is_changed = self.script != page
+        self.script = self.script.replace("/var/lib/forkhost/host", busy.folder.path).replace("/backup/host", self.place)
         self.environment = {**os.environ, "PATH": os.pathsep.join([tools, os.environ["PATH"]])}
 
     def run(self, happens):
@@ -179,23 +176,23 @@ HAPPENINGS = {
     "objects go": lambda busy: busy.ask(*GIVEN_UP, held=True),
 }
 STEPS = ["state", "journal", "objects", "after objects"]
-BEFORE, SWEPT = "before=$(now)", "{ test ! -e swept || cp -a swept /backup/host; }"
-LOGS = "$(ls | grep uploads)"
-COPIES = f"{BEFORE} &&\n  cp -a state journal {LOGS} /backup/host && {{ cp -a objects /backup/host; {SWEPT[2:]}"
-LOOK = ' &&\n  test "$before" = "$(now)"\n'
+BEFORE, LOGS = "before=$(now)", "$(ls | grep uploads)"
+OBJECTS = "if test -e segments; then cp -a segments /backup/host; else files; fi"
+COPIES = f"{BEFORE} &&\n  cp -a state journal {LOGS} /backup/host &&\n  {OBJECTS}"
+LOOK = ' && test "$before" = "$(now)"\n'
 LOOK_AT_LOGS = "stat -c %i:%w uploads.* 2> /dev/null; "
 # Wrong commands; what happens to show it, and before which step; and how the copy is refused.
 WRONG = {
     "objects first": (
-        (COPIES, f"cp -a objects /backup/host && {BEFORE} && cp -a state journal {LOGS} /backup/host && {SWEPT}"),
+        (COPIES, f"{OBJECTS} && {BEFORE} && cp -a state journal {LOGS} /backup/host"),
         ("objects come, and the state is saved", "after objects", b"lost "),
     ),
     "the journal before the state": (
-        (COPIES, f"cp -a journal {LOGS} /backup/host && {BEFORE} && cp -a state objects /backup/host && {SWEPT}"),
+        (COPIES, f"cp -a journal {LOGS} /backup/host && {BEFORE} && cp -a state /backup/host && {OBJECTS}"),
         ("objects come, and the state is saved", "after journal", b"journal of another state"),
     ),
     "swept before objects": (
-        (COPIES, f"{BEFORE} && cp -a state journal {LOGS} /backup/host && {SWEPT} && cp -a objects /backup/host"),
+        (COPIES, f"{BEFORE} && cp -a state journal {LOGS} /backup/host && {{ test ! -e swept || cp -a swept /backup/host; }} && cp -a objects /backup/host"),
         ("objects go", "objects", b"lost "),
     ),
     "without the look at the state": ((LOOK, "\n"), ("objects go, and the state is saved", "after journal", b"lost ")),
@@ -234,6 +231,27 @@ def show_wrong_backups(checks, program, work):
         status, output, said, _ = copying.run(once(busy, step, happening))
         last = said.splitlines()[-1:]
         checks.same(f"{label}: check, {last}", (1, b"", [True]), (status, output, [fault in row for row in last]))
+        busy.end()
+
+
+# A push that is refused leaves its objects until a sweep, and nothing in the journal.
+REFUSED = (b"bob", b"push r\ncreate refs/heads/x " + b"1" * 64 + b"\n\n" + b"".join(record(b"blob", b"%d" % at + bytes(30000)) for at in range(10)))
+
+
+def show_moved_segments(checks, program, work):
+    """What is live in a segment moves to a new one after the folder was listed, and no state is written. Without a look at what `cp`
+    reports the copy is refused."""
+    for label, change, end in (("a look", "", (0, b"sound\n")), ("no look", "fi &&", (1, b""))):
+        os.mkdir(place := os.path.join(work, label.replace(" ", "-")))
+        busy = begun(program, place)
+        if busy.folder.segments():
+            busy.ask(REFUSED, (HOST, b"collect\n"))
+            busy.ask(REFUSED)
+            due = [(HOST, b"collect\n")]
+            happens = lambda step, _: busy.ask(due.pop()) if step.startswith("objects/") and due else None
+            status, output, said, _ = Copying(busy, lambda script: script.replace(change, "fi;") if change else script).run(happens)
+            checks.same(f"{label} at what cp reports: check, {said[-100:]}", end, (status, output))
+            checks.same("it was swept", [], due)
         busy.end()
 
 

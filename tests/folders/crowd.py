@@ -23,7 +23,7 @@ BAD_LINE = b"! bad-frame\n"
 GARBAGE = [b"\n", b"bob 06\nquota\n", b"bob 1048577\n", b"GET / HTTP/1.1\r\n\r\n", b"x" * 41]
 # No good client waits longer for a reply, in seconds, or for more than this part of the time that all take: what all ask
 # at once takes a machine less, however busy it is.
-LONGEST, PART = 2, 4
+LONGEST, PART = 2, 2
 
 
 class Session:

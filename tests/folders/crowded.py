@@ -8,11 +8,11 @@ import time
 from folders.clients import ALICE, GREAT_ASK, GREAT_PUSH, GREAT_TOLD, QUOTA, TENANTS, TOLD, exactly
 from folders.patient import sends
 from folders.killing import limited
-from folders.long_connection import DROP, PART
+from folders.long_connection import DROP, LONG, PART
 from lib.folder import Folder
 from lib.frames import frame, framed, frames
 from lib.live import Serving, to_end
-from lib.objects import record
+from lib.objects import name_of, record
 from lib.program import done, failed
 from lib.waiting import PATIENCE, until, until_it_waits
 
@@ -172,6 +172,34 @@ def show_few_files(checks, program, work):
     for stream in more[4:]:
         checks.same("the others", TOLD, exactly(stream, len(TOLD)))
         stream.close()
+    checks.same("the end", done(), serving.ended())
+
+
+def show_no_files_to_save(checks, program, work):
+    """Without a file for a new state the old one stays and its journal goes on, until there is one."""
+    folder, path = Folder(os.path.join(work, "kept")), os.path.join(work, "socket")
+    serving = Serving(program, path, 1, "--dir", folder.path, "--at-once", "8", *TENANTS)
+    journal = lambda: sum(it.stat().st_size for it in os.scandir(folder.inside("journal")))
+    name = name_of(b"blob", b"one")
+    commands = [b"".join(b"%s refs/tags/%0180d %s\n" % (verb, at, name) for at in range(256)) for verb in (b"create", b"delete")]
+    with serving.client() as stream:
+
+        def asked_for_long():
+            """As many requests as make a journal long, and whether they were done; they bring no object."""
+            stream.sendall(b"".join(frame(ALICE, b"update-refs r\n" + commands[at % 2]) for at in range(24)))
+            return exactly(stream, 24 * len(framed(b"ok\n"))) == 24 * framed(b"ok\n")
+
+        stream.sendall(frame(ALICE, b"init r\n") + frame(ALICE, b"push r\n\n" + record(b"blob", b"one")))
+        checks.same("an object", framed(b"ok\n") * 2, exactly(stream, 2 * len(framed(b"ok\n"))))
+        pid = serving.child.pid
+        checks.same("a long journal is begun anew", True, asked_for_long() and until_it_waits(pid) and journal() < LONG)
+        there = {int(number) for number in os.listdir(f"/proc/{pid}/fd")}
+        old = resource.prlimit(pid, resource.RLIMIT_NOFILE)
+        resource.prlimit(pid, resource.RLIMIT_NOFILE, (min(set(range(len(there) + 1)) - there), old[1]))
+        checks.same("without a file all is done", True, asked_for_long() and asked_for_long())
+        checks.same("and is in the journal", True, 2 * LONG < journal())
+        resource.prlimit(pid, resource.RLIMIT_NOFILE, old)
+        checks.same("with one it is begun anew", True, asked_for_long() and until_it_waits(pid) and journal() < LONG)
     checks.same("the end", done(), serving.ended())
 
 

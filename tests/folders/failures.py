@@ -150,8 +150,8 @@ def show_failures(checks, given, work):
         wanted = told_without_failure(program, Folder(os.path.join(work, row)), turns)
         checks.same(f"{row}: its end", done(), wanted[3])
         told = [show_kind(checks, program, work, row, wanted, kind, fails) for kind in KINDS for fails in (1, 2)]
-        most = len(KINDS) - 2 if given.more else len(KINDS)
-        checks.same(f"{row}: faults are told of most kinds", True, sum(map(bool, told)) >= most)
+        # A row whose objects are new opens, writes and renames, and looks at nothing.
+        checks.same(f"{row}: faults are told in many runs", True, sum(map(bool, told)) >= len(KINDS) - 2)
     program.stop()
 
 

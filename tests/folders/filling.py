@@ -10,6 +10,7 @@ from lib.frames import frame, framed, replies
 from lib.live import Serving
 from lib.objects import name_of, record
 from lib.program import done, ended, sound
+from lib.waiting import until
 
 ALICE, BOB, HOST = b"alice", b"bob", b"@host"
 TENANTS = ["alice=1000000000", "bob=1000000"]
@@ -180,7 +181,7 @@ def show_one(host, path, way):
     checks.same(f"{way}: the reserve stays given back", GIVEN_BACK, held(folder))
 
     os.remove(os.path.join(path, "beside"))
-    time.sleep(PAUSE)
+    checks.same(f"{way}: the reserve is made again", True, is_made_again(host))
     checks.same(f"{way}: a push with free space", OK, host.pushed(5000))
     checks.same(f"{way}: a part with free space", OK, host.asked(BOB, b"part\n\n" + record(b"blob", b"new")))
     checks.same(f"{way}: the end of it", OK, host.asked(BOB, b"part-end b\n"))
@@ -207,6 +208,11 @@ def program_checked(host):
     return host.program.checked(host.folder.path).output
 
 
+def is_made_again(host):
+    """Whether the reserve is whole again, which takes 16 seconds at most after there is room. The host tries if it is asked."""
+    return until(lambda: host.asked(BOB, b"quota\n")[:3] == OK and held(host.folder) == WHOLE)
+
+
 def begun(checks, program, path, work):
     """A host at once for all, with a repository of each tenant, and an object of the one that does not fill the disk."""
     host = Filled(checks, program, Folder(os.path.join(path, "host")), work, ["--at-once", "8"])
@@ -228,7 +234,7 @@ def show_full_start(checks, program, work):
         host.refused("a start that takes the reserve")
         checks.same("it is given back", GIVEN_BACK, held(host.folder))
         os.remove(os.path.join(path, "beside"))
-        time.sleep(PAUSE)
+        checks.same("the reserve is made again", True, is_made_again(host))
         checks.same("a push with free space", OK, host.pushed(5000))
         host.killed("a start that takes the reserve", GIVEN, AGAIN)
 
@@ -241,7 +247,7 @@ def show_swept(checks, program, work):
         host.others("to be swept", 20)
         checks.same("a prune", OK, host.asked(ALICE, b"prune\n"))
         checks.same("a collection", OK, host.asked(HOST, b"collect\n")[:3])
-        time.sleep(PAUSE)
+        checks.same("the reserve is made again", True, is_made_again(host))
         checks.same("a push after it", OK, host.pushed(5000))
         checks.same("the reserve is whole again", WHOLE, held(host.folder))
         host.objects = {name: content for name, content in host.objects.items() if len(content) == 5000}
@@ -264,6 +270,33 @@ def show_small(checks, program, work):
         checks.same("a session of run", done(framed(OK) * 3), program.ran("run", "--dir", host.folder.path, given=given))
         checks.same("check", sound(), program.checked(host.folder.path))
         checks.same("they make none", False, os.path.lexists(host.folder.inside("reserve")))
+
+
+def pipe(path, beside):
+    os.mkfifo(path)
+
+
+# What may stand in the place of a reserve, and is no file of the host's own.
+ALIENS = {"a link": lambda path, beside: os.symlink(beside, path), "another name": lambda path, beside: os.link(beside, path), "a pipe": pipe}
+
+
+def show_alien_reserves(checks, program, work):
+    """What is no file of the host's own in the place of a reserve stays as it is, and the host serves without one."""
+    for name in ("reserve", "reserve.part"):
+        for label, put in ALIENS.items():
+            place = os.path.join(work, f"{name} {label}")
+            os.makedirs(kept := os.path.join(place, "host"), 0o700)
+            with open(beside := os.path.join(place, "beside"), "wb") as file:
+                file.write(b"beside")
+            put(there := os.path.join(kept, name), beside)
+            before = os.lstat(there).st_mode, os.lstat(there).st_ino
+            host = Filled(checks, program, Folder(kept), place, [])
+            host.start(*TENANTS)
+            checks.same(f"{name}, {label}: a repository", OK, host.asked(ALICE, b"init r\n"))
+            host.killed(f"{name}, {label}", NONE)
+            checks.same(f"{name}, {label}: it stays", before, (os.lstat(there).st_mode, os.lstat(there).st_ino))
+            with open(beside, "rb") as file:
+                checks.same(f"{name}, {label}: what it leads to", b"beside", file.read())
 
 
 def show_full_logs(checks, program, work):

@@ -3,17 +3,18 @@ start does not repeat what takes long."""
 import os
 import threading
 
-from folders.clients import ALICE
+from folders.clients import ALICE, BOB
 from lib.folder import Folder
-from lib.frames import frame, framed
+from lib.frames import frame, framed, frames
 from lib.live import Serving
-from lib.objects import record
+from lib.objects import name_of, record
 from lib.program import done, sound
 
 # Bytes of a journal after which the state is saved, and those of a part; all that is sent is more than both together.
 LONG, PART, COUNT = 1_048_576, 1_000_000, 10
 # Objects that the requests of a journal may visit, and those that a pruning visits here.
-VISITED, MANY = 16_777_216, 10_000
+VISITED, MANY = 16_777_216, 8_000
+PRUNES = VISITED // MANY + 400
 DROP = b"part-drop\n"
 
 
@@ -46,22 +47,35 @@ def show_long_connection(checks, program, work):
     checks.same("the next start has it", done(framed(b"no repository-exists r\n")), program.ran("run", "--dir", folder.path, given=frame(ALICE, b"init r\n")))
 
 
-def show_many_prunes(checks, program, work):
-    """Requests that are short and visit all objects of a tenant: a start has few of them to repeat."""
+def pruned(checks, program, work, who):
+    """How many requests a start has to repeat, after a tenant has pruned often beside a tree of many objects, which alice has."""
     folder, path = Folder(os.path.join(work, "pruned")), os.path.join(work, "socket")
-    serving = Serving(program, path, 1, "--dir", folder.path, "alice=100000000")
-    blobs = [record(b"blob", b"%d" % number) for number in range(MANY)]
-    prunes = VISITED // MANY + 400
+    blobs = [b"%d" % number for number in range(MANY)]
+    tree = b"".join(b"100644 %05d\0" % at + bytes.fromhex(name_of(b"blob", blob).decode()) for at, blob in enumerate(blobs))
+    tag = b"push r\ncreate refs/tags/t " + name_of(b"tree", tree) + b"\n\n"
+    begun = [(ALICE, b"init r\n"), (BOB, b"init r\n"), (ALICE, tag + b"".join(record(b"blob", it) for it in blobs) + record(b"tree", tree))]
+    made = program.ran("run", "--dir", folder.path, "alice=100000000", "bob=1000", given=frames(begun))
+    checks.same("a folder", done(framed(b"ok\n") * 3), made)
+    serving = Serving(program, path, 1, "--dir", folder.path)
+    turns = [(who, b"push r\n\n" + record(b"blob", b"x")), (who, b"prune\n")] * PRUNES
     with serving.client() as stream, stream.makefile("rb") as reader:
-        stream.sendall(frame(ALICE, b"init r\n") + frame(ALICE, b"push r\n\n" + b"".join(blobs)))
-        reader.read(2 * len(framed(b"ok\n")))
-        sending = threading.Thread(target=stream.sendall, args=(frame(ALICE, b"prune\n") * prunes,))
+        sending = threading.Thread(target=stream.sendall, args=(frames(turns),))
         sending.start()
-        told = reader.read(prunes * len(framed(b"ok\n")))
+        told = reader.read(len(turns) * len(framed(b"ok\n")))
         sending.join()
-        checks.same("all are answered", framed(b"ok\n") * prunes, told)
+        checks.same("all are answered", framed(b"ok\n") * len(turns), told)
         os.kill(serving.child.pid, 9)
         serving.child.wait()
     again = folder.again()
-    checks.same("a start has some of them to repeat", True, 0 < again < VISITED // MANY + 200)
     checks.same("after a kill", sound(again), program.checked(folder.path))
+    return again
+
+
+def show_many_prunes(checks, program, work):
+    """Requests that are short and visit all objects of a tenant: a start has few of them to repeat. They cost the others no saving
+    if the tenant has few objects."""
+    for who in (ALICE, BOB):
+        os.mkdir(place := os.path.join(work, who.decode()))
+        again = pruned(checks, program, place, who)
+        few, all_of_them = range(1, 2 * (VISITED // MANY) + 400), [2 * PRUNES]
+        checks.same(f"{who}: a start repeats {again}", True, again in (few if who == ALICE else all_of_them))

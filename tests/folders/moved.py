@@ -10,7 +10,7 @@ from lib.folder import Folder, content, write
 from lib.frames import frames, replies
 from lib.live import Live
 from lib.objects import name_of, record, stored
-from lib.packed import NO_NAME, Record, spelled
+from lib.packed import NO_NAME, Record, long_record_of, record_of, spelled
 from lib.pages import block, commands, printed
 from lib.places import CLIENTS
 from lib.program import PATIENCE, Ran, done, sound
@@ -141,7 +141,8 @@ def show_removals(checks, program, work):
 def show_segments(checks, _program, work):
     """What is found in segments with records that are damaged, cut or of no form, as a start finds it."""
     names = [name_of(b"blob", text) for text in (OWN, STAGED, LONG)]
-    own, staged, long = (spelled(Record(b"o", bytes.fromhex(name.decode()), stored(b"blob", text))) for name, text in zip(names, (OWN, STAGED, LONG)))
+    forms = (record_of, long_record_of, record_of)
+    own, staged, long = (spelled(form(bytes.fromhex(name.decode()), stored(b"blob", text))) for form, name, text in zip(forms, names, (OWN, STAGED, LONG)))
     removed = spelled(Record(b"r", bytes.fromhex(names[0].decode()), b""))
     final = spelled(Record(b"s", NO_NAME, b""))
     damaged = staged[:-1] + b"x"

@@ -7,9 +7,10 @@ from folders.failing import Failing
 from folders.harms import ALICE, BOB, HOST, NOTHING, TENANTS, begun, blob, given_up, looks_of, tagged, told_to
 from lib.checks import Checks
 from lib.folder import Folder, content, write
-from lib.frames import frames
-from lib.live import Live
-from lib.packed import records_in, spelled
+from lib.frames import frames, replies
+from lib.live import Live, Serving
+from lib.objects import name_of, record, stored
+from lib.packed import SETTLED, Record, record_of, records_in, spelled
 from lib.program import Program, done, failed, sound
 
 # Texts whose records are short, so that each byte of a segment can be altered.
@@ -136,6 +137,25 @@ def show_removals(checks: Checks, program, work):
     checks.same("check", sound(), program.checked(folder.path))
 
 
+def show_damaged_undoing(checks: Checks, program, work):
+    """A damaged record may have undone removals: none before it is made final by a later segment."""
+    folder = Folder(os.path.join(work, "undoing"))
+    checks.same("the end", done(), begun(checks, program.packed(), folder, ALICE, texts=TEXTS).ended())
+    names, (path,) = sorted(folder.files()), folder.segments().paths()
+    removals = b"".join(spelled(Record(b"r", bytes.fromhex(name.decode()), b"")) for name in names)
+    other = record_of(bytes.fromhex(name_of(b"blob", b"other").decode()), stored(b"blob", b"other"))
+    write(path, content(path) + removals + spelled(other)[:-1] + b"\0")
+    write(folder.inside("segments", "00000002"), spelled(SETTLED))
+    checks.same("all are there", names, sorted(folder.files()))
+    checks.same("check", sound(), program.checked(folder.path))
+    live = Live(program, "--dir", folder.path)
+    checks.same("a push", NOTHING, live.asked(ALICE, tagged(*LATER)))
+    checks.same("what goes", [NOTHING, NOTHING], [live.asked(ALICE, given_up(LATER[0])), live.asked(ALICE, b"prune\n")])
+    checks.same("it is swept", b"ok\n1\n", live.asked(HOST, b"collect\n"))
+    checks.same("the end after a removal", done(), live.ended())
+    checks.same("check after it", sound(), program.checked(folder.path))
+
+
 class Unsignalled(Program):
     """A program that gets an error, and no signal, where a file may not grow."""
 
@@ -162,6 +182,23 @@ def show_failed_appends(checks: Checks, program, work):
     checks.same("check", sound(), program.checked(folder.path))
     ran = program.ran("run", "--dir", folder.path, given=frames(asks))
     checks.same("a start shows all", (0, frames_of(shows)), (ran.status, ran.output))
+
+
+def show_pipes(checks: Checks, program, work):
+    """Something else in the place of the last segment is a fault of the store, and nothing waits for it."""
+    folder = Folder(os.path.join(work, "pipes"))
+    live = begun(checks, Program(program.path, {"run": ("--packed",)}), folder, ALICE, texts=TEXTS)
+    asks = looks_of(*TEXTS)[:-1]
+    shows = told_to(live, asks)
+    checks.same("the end", done(), live.ended())
+    path = os.path.join(folder.path, "segments", "00000002")
+    for label, make, remove in (("a pipe", os.mkfifo, os.remove), ("a folder", os.mkdir, os.rmdir)):
+        make(path)
+        ran = program.ran("run", "--dir", folder.path, given=frames([(ALICE, tagged(*LATER)), *asks]))
+        checks.same(label, (0, [b"host store\n", *shows]), (ran.status, replies(ran.output)[0]))
+        remove(path)
+    ran = program.ran("run", "--dir", folder.path, given=frames([(ALICE, tagged(*LATER))]))
+    checks.same("nothing there", (0, [NOTHING]), (ran.status, replies(ran.output)[0]))
 
 
 MANY = 1_000_000
@@ -198,3 +235,23 @@ def show_full_writes(checks: Checks, given, work):
         passes += 1
     checks.same(f"{passes} writes, and a segment that was copied", True, passes > 30 and "00000002" in segments)
     program.stop()
+
+
+def show_room(checks: Checks, program, work):
+    """Room of one sweep is free again after some savings, though nothing more is swept."""
+    folder = Folder(os.path.join(work, "room"))
+    serving = Serving(program, os.path.join(work, "socket"), 7, "--packed", "--dir", folder.path, *TENANTS)
+    text = lambda word, number: record(b"blob", b"%s %04d" % (word, number))
+    pushed = lambda word, count: b"push r\n\n" + b"".join(text(word, number) for number in range(count))
+    room = lambda: sum(map(os.path.getsize, folder.segments().paths()))
+    asked = [(ALICE, b"init r\n"), (BOB, b"init r\n"), *[(BOB, pushed(b"stays %d" % at, 6000)) for at in range(3)]]
+    checks.same("what stays", [b"ok\n"] * 5, replies(serving.told(frames(asked)))[0])
+    live = room()
+    asked = [*[(ALICE, pushed(b"goes %d" % at, 6000)) for at in range(3)], (ALICE, b"prune\n"), (HOST, b"collect\n")]
+    checks.same("what goes", [*[b"ok\n"] * 4, b"ok\n18000\n"], replies(serving.told(frames(asked)))[0])
+    checks.same("it is not free at once", True, room() > 2 * live)
+    for number in range(5):
+        checks.same(f"a change, {number}", [b"ok\n"], replies(serving.told(frames([(BOB, b"init s%d\n" % number)])))[0])
+    checks.same("the end", done(), serving.ended())
+    checks.same(f"it is free, {room():,} bytes for {live:,}", True, room() <= 2 * live)
+    checks.same("check", sound(), program.checked(folder.path))

@@ -14,7 +14,7 @@ from lib.folder import Folder, content, write
 from lib.frames import frames
 from lib.live import Live
 from lib.objects import stored
-from lib.packed import Record, record_of
+from lib.packed import SHORT, Record, record_of
 from lib.program import PATIENCE, Ran, done, failed, sound, without_cause
 
 # The texts of a saved state, of which the last is swept again, and of a journal after it.
@@ -116,7 +116,7 @@ def show_records(checks: Checks, program, work):
     kept = Kept(checks, program, work, False)
     folder = kept.copy()
     checks.same("done", done(), repacked(program, folder, ("--packed",)))
-    records = [record for record in folder.segments().records() if record.kind in b"of"][: len(kept.files)]
+    records = [record for record in folder.segments().records() if record.kind in (b"o", b"f", SHORT)][: len(kept.files)]
     wanted = [record_of(bytes.fromhex(name.decode()), data) for name, data in sorted(kept.files.items())]
     checks.same("the records", wanted, records)
     checks.same("the file that is no object's", Record(b"f", bytes.fromhex(JUNK_NAME.decode()), JUNK), next(r for r in records if r.data == JUNK))

@@ -2,7 +2,6 @@
 import os
 import random
 import re
-import time
 
 from folders.cases import B, C, D, OBJECTS, O, T
 from lib.folder import Folder
@@ -127,19 +126,25 @@ def show_ended(checks, program, work):
 
 
 def show_linear(checks, program, work):
-    """A record is hashed once, when it is whole: one of 8 MiB in parts of 1 KiB takes seconds, and not minutes."""
+    """A record is hashed once, when it is whole: one of 8 MiB in parts of 1 KiB takes seconds of a processor, and not minutes."""
     folder = Folder(os.path.join(work, "linear"))
     large = (b"blob", random.Random(1).randbytes(8 * MIB))
     body = b"\n" + record(*large)
     live = begun(checks, program, folder)
-    start = time.monotonic()
     told = {live.asked(ALICE, b"part\n" + body[at : at + 1024]) for at in range(0, len(body), 1024)}
-    took = time.monotonic() - start
+    took = seconds(live)
     checks.same("each part", {b"ok\n"}, told)
     checks.same(f"it took {took:.1f} s", True, took < 30)
     checks.same("its end", b"ok\n", live.asked(ALICE, b"part-end r\n"))
     checks.same("it is seen", b"ok\n" + record(*large), live.asked(ALICE, b"cat-file %s\n" % name_of(*large)))
     checks.same("the end", done(), live.ended())
+
+
+def seconds(live):
+    """How long the process had a processor, in seconds: proc_pid_stat(5)."""
+    with open(f"/proc/{live.child.pid}/stat", encoding="ascii") as file:
+        words = file.read().rpartition(")")[2].split()
+    return sum(map(int, words[11:13])) / os.sysconf("SC_CLK_TCK")
 
 
 def peak(live):

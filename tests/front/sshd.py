@@ -6,6 +6,7 @@ from front.front import FrontWorld
 from front.packages import found
 from lib.waiting import until
 
+# By SHLVL bash takes itself for one within another, and does not read `.bashrc`, which may say anything on standard error.
 SERVER = """ListenAddress 127.0.0.1
 Port {port}
 HostKey {folder}/host_key
@@ -17,6 +18,7 @@ PasswordAuthentication no
 KbdInteractiveAuthentication no
 PermitRootLogin prohibit-password
 AcceptEnv GIT_PROTOCOL
+SetEnv SHLVL=1
 MaxStartups 100
 MaxSessions 100
 LogLevel ERROR

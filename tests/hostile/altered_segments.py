@@ -1,4 +1,5 @@
 """A segment that is altered, and what else may be in its place."""
+import itertools
 import os
 import random
 
@@ -9,17 +10,19 @@ from hostile.runs import give
 from hostile.stores import ALICE, Store
 from lib.folder import Folder, content, write
 from lib.frames import frame
-from lib.packed import record_of, spelled
+from lib.packed import long_record_of, record_of, spelled
 from lib.program import done, failed, of_verdict
 
 TRIES = 3
 
 
 def packed(store, path):
-    """The store's folder with all objects in one segment."""
+    """The store's folder with all objects in one segment, by turns in the form that is written now and in the one of earlier
+    programs."""
     folder = Folder(path)
     os.mkdir(folder.inside("segments"))
-    records = [spelled(record_of(bytes.fromhex(name.decode()), data)) for name, data in store.files.items()]
+    forms = itertools.cycle((record_of, long_record_of))
+    records = [spelled(form(bytes.fromhex(name.decode()), data)) for form, (name, data) in zip(forms, store.files.items())]
     write(folder.inside("segments", "00000001"), b"".join(records))
     folder.set_state(store.text)
     give(folder.path)

@@ -2,6 +2,7 @@
 import os
 import sys
 import tempfile
+import traceback
 from concurrent.futures import ProcessPoolExecutor
 from itertools import repeat
 
@@ -58,14 +59,15 @@ class Checks:
         self.end()
 
     def run(self, shows, program, world=None):
-        """Shows each subject in a new folder, or in a world that is made there; one that breaks off counts as a failure."""
+        """Shows each subject in a new folder, or in a world that is made there; one that breaks off in any way counts as a failure."""
         with tempfile.TemporaryDirectory() as work:
             for show in shows:
                 folder = os.path.join(work, show.__name__)
                 os.mkdir(folder)
                 try:
                     self.begin(show, program, folder, world)
-                except (OSError, ValueError) as error:
+                except Exception as error:
+                    traceback.print_exc()
                     self.same(show.__name__, "an end", repr(error))
                 program.stop()
 

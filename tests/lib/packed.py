@@ -3,8 +3,8 @@ import hashlib
 import os
 from typing import NamedTuple
 
-# One byte of the kind, four of the length, and a name.
-TITLE = 37
+# The kind of an object whose length is in the same two bytes as its kind, and from which on no length is.
+SHORT, LONG = b"\x80", 1 << 15
 SUM = 32
 NO_NAME = bytes(32)
 # The longest file of an object.
@@ -21,24 +21,49 @@ class Record(NamedTuple):
 
 def spelled(record):
     """The bytes of a record."""
-    titled = record.kind + len(record.data).to_bytes(4, "big") + record.name + record.data
-    return titled if record.kind == b"o" else titled + hashlib.sha256(titled).digest()
+    size = len(record.data)
+    titled = ((LONG + size).to_bytes(2, "big") if record.kind == SHORT else record.kind + size.to_bytes(4, "big")) + record.name + record.data
+    return titled if record.kind in (b"o", SHORT) else titled + hashlib.sha256(titled).digest()
 
 
 def record_of(name, data):
-    """The record of a file under a name, in binary."""
-    return Record(b"o" if hashlib.sha256(data).digest() == name else b"f", name, data)
+    """The record of a file under a name, in binary, as the program spells it."""
+    if hashlib.sha256(data).digest() != name:
+        return Record(b"f", name, data)
+    return Record(SHORT if len(data) < LONG else b"o", name, data)
+
+
+def long_record_of(name, data):
+    """The same without the short form: so earlier programs spelled it."""
+    return record_of(name, data)._replace(kind=b"o")
+
+
+class Title(NamedTuple):
+    kind: bytes
+    name: bytes
+    size: int
+    # Where the bytes of the record begin.
+    begin: int
+
+
+def title_at(stream, at):
+    """The title at a place of a segment, if all of it is there."""
+    if stream[at : at + 1] >= SHORT:
+        title = Title(SHORT, stream[at + 2 : at + 34], int.from_bytes(stream[at : at + 2], "big") - LONG, at + 34)
+    else:
+        title = Title(stream[at : at + 1], stream[at + 5 : at + 37], int.from_bytes(stream[at + 1 : at + 5], "big"), at + 37)
+    return title if title.begin <= len(stream) else None
 
 
 def record_at(stream, at):
     """The whole record at a place of a segment, and where it ends, or nothing."""
-    kind, size, name = stream[at : at + 1], int.from_bytes(stream[at + 1 : at + 5], "big"), stream[at + 5 : at + TITLE]
-    record = Record(kind, name, stream[at + TITLE : at + TITLE + size])
-    if kind not in (b"o", b"f", b"r", b"s", b"u") or len(name) < 32:
+    title = title_at(stream, at)
+    if title is None or title.kind not in (b"o", b"f", b"r", b"s", b"u", SHORT):
         return None
-    if (kind in b"rsu" and size) or (kind in b"su" and name != NO_NAME):
+    record = Record(title.kind, title.name, stream[title.begin : title.begin + title.size])
+    if (title.kind in b"rsu" and title.size) or (title.kind in b"su" and title.name != NO_NAME):
         return None
-    if kind == b"o" and hashlib.sha256(record.data).digest() != name:
+    if title.kind in (b"o", SHORT) and hashlib.sha256(record.data).digest() != title.name:
         return None
     end = at + len(spelled(record))
     return (record, end) if stream[at:end] == spelled(record) else None
@@ -46,11 +71,13 @@ def record_at(stream, at):
 
 def claimed_end(stream, at):
     """Where a record ends by its title, if that is in the segment."""
-    kind, size = stream[at : at + 1], int.from_bytes(stream[at + 1 : at + 5], "big")
-    sizes = {b"o": TITLE + size, b"f": TITLE + size + SUM, b"r": TITLE + SUM, b"s": TITLE + SUM, b"u": TITLE + SUM}
-    if len(stream) < at + TITLE or kind not in sizes or size > LONGEST or at + sizes[kind] > len(stream):
+    title = title_at(stream, at)
+    if title is None or title.size > LONGEST:
         return None
-    return at + sizes[kind]
+    sizes = {SHORT: title.size, b"o": title.size, b"f": title.size + SUM, b"r": SUM, b"s": SUM, b"u": SUM}
+    if title.kind not in sizes or title.begin + sizes[title.kind] > len(stream):
+        return None
+    return title.begin + sizes[title.kind]
 
 
 def places_in(stream):
@@ -65,25 +92,27 @@ def places_in(stream):
         at = end
 
 
+SETTLED, UNDONE = Record(b"s", NO_NAME, b""), Record(b"u", NO_NAME, b"")
+
+
 def records_in(stream):
-    """The records of a segment that count, and the length of what they are in. A damaged one is passed over, and after it only
-    objects count."""
+    """The records of a segment that count, and the length of what they are in. A damaged one counts as one that undoes removals,
+    and after it only objects count."""
     found, end, is_damaged = [], 0, False
     for record, _, end in places_in(stream):
-        if record and (record.kind == b"o" or not is_damaged):
+        if record and (record.kind in (b"o", SHORT) or not is_damaged):
             found.append(record)
-        is_damaged = is_damaged or record is None
+        if record is None:
+            found.append(UNDONE)
+            is_damaged = True
     return found, end
-
-
-SETTLED = Record(b"s", NO_NAME, b"")
 
 
 def shown(records):
     """What an opening shows of these records: files by name. What was removed since the last settling is back."""
     live, pending = {}, {}
     for record in records:
-        if record.kind in b"of":
+        if record.kind in (b"o", b"f", SHORT):
             live[record.name] = record.data
         elif record.kind == b"r" and record.name in live:
             pending[record.name] = live.pop(record.name)
@@ -140,8 +169,9 @@ class Segments:
             with open(path, "rb") as file:
                 stream = file.read()
             for _, at, _ in reversed(list(places_in(stream))):
-                if stream[at : at + 1] in (b"o", b"f") and stream[at + 5 : at + TITLE].hex().encode() == name:
-                    return path, at + TITLE, int.from_bytes(stream[at + 1 : at + 5], "big")
+                title = title_at(stream, at)
+                if title.kind in (b"o", b"f", SHORT) and title.name.hex().encode() == name:
+                    return path, title.begin, title.size
         raise FileNotFoundError(name)
 
 

@@ -5,7 +5,7 @@ import termios
 import time
 
 # What a busy machine may take, in seconds.
-PATIENCE = 60
+PATIENCE = 300
 PAUSE = 0.005
 # A process that sleeps at this many looks in a row waits for somebody.
 LOOKS = 20

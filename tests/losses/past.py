@@ -124,7 +124,10 @@ class Past:
             raise ValueError(f"the log of strace does not say what is in the folder; the last call is {self.unsure}")
 
     def length_of(self, call, tree):
-        """How many bytes a call wrote that was not seen to return, by the file's length; any number for other calls."""
+        """How many bytes a call wrote that was not seen to return, by the file's length, or all if it says where; any number for
+        other calls."""
+        if call.name == "pwrite64":
+            return int(call.words[2])
         file = self.descriptors.get(int(call.words[0])) if call.name in ("write", "writev") else None
         return len(self.found(tree, ROOT, file.inode)) - self.place_in(file) if isinstance(file, Opened) else 0
 
@@ -187,6 +190,12 @@ def do_write(past, call):
         past.happened(Told(0 if file == "out" else file, data))
 
 
+def do_write_at(past, call):
+    file = past.descriptors.get(int(call.words[0]))
+    if isinstance(file, Opened):
+        past.happened(Wrote(file.inode, int(call.words[3]), b"".join(call.texts)[: call.result]))
+
+
 def do_seek(past, call):
     file = past.descriptors.get(int(call.words[0]))
     if isinstance(file, Opened) and file.at is not None:
@@ -228,6 +237,7 @@ DOING = {
     "lseek": do_seek,
     "write": do_write,
     "writev": do_write,
+    "pwrite64": do_write_at,
     "sendto": do_write,
     "sendmsg": do_write,
     "fsync": do_sync,

@@ -1,4 +1,5 @@
 """What is lost: a process, a machine, its wire, a storage node, and a metadata server, while a user pushes."""
+import threading
 import time
 
 from lib.program import sound
@@ -69,7 +70,7 @@ def show_cut_off(world, label="a machine is cut off"):
         one.join()
         world.checks.same(f"{label}: acknowledged by both", 0, one.begun_after(serves))
         world.checks.same(f"{label}: another reply, {one.other}", True, one.other in (None, b"", b"host store\n"))
-    world.checks.same(f"{label}: a change at the old host", b"", change(old))
+    world.checks.same(f"{label}: a change at the old host", b"", asked(old, b"init late\n"))
     told = old.ended()
     world.checks.same(f"{label}: its host ends", (1, b"forkhost: journal not written\n"), (told.status, told.fault))
     world.checks.same(f"{label}: the other one serves", (True, None), (bool(there.acknowledged), new.child.poll()))
@@ -83,28 +84,33 @@ def show_cut_off(world, label="a machine is cut off"):
     there.join()
 
 
-def change(host):
-    """The reply to a request that needs the journal alone, or nothing if none comes."""
+def asked(host, request):
+    """The reply to a request that needs no object, or nothing if none comes."""
     try:
-        return host.asked(WHO, b"init late\n")
+        return host.asked(WHO, request)
     except OSError:
         return b""
 
 
 def show_old_reads(world):
-    """A host that is cut off while nobody changes anything does not notice: what needs no file is answered as of before."""
+    """A host that is cut off answers nothing, also if nobody changes anything: it waits for its folder before it answers."""
     label = "cut off, and only read"
     folder, old, user = world.begun()
     user.stop()
     world.network.cut(world.one.name)
+    time.sleep(AFTER)
+    told = []
+    reads = threading.Thread(target=lambda: told.append(asked(old, b"repos\n")), daemon=True)
+    reads.start()
     new = world.two.took_over(folder)
     world.checks.same(f"{label}: a change at the new host", OK, new.asked(WHO, b"init there\n"))
     world.checks.same(f"{label}: the new host shows it", OK + b"r\nthere\n", new.asked(WHO, b"repos\n"))
-    world.checks.same(f"{label}: the old one does not", OK + b"r\n", old.asked(WHO, b"repos\n"))
+    world.checks.same(f"{label}: the old one answers nothing", [], told)
     world.network.heal(world.one.name)
-    world.checks.same(f"{label}: a change at the old host", b"", change(old))
-    told = old.ended()
-    world.checks.same(f"{label}: its host ends", (1, b"forkhost: journal not written\n"), (told.status, told.fault))
+    reads.join()
+    world.checks.same(f"{label}: nor does it later", [b""], told)
+    ends = old.ended()
+    world.checks.same(f"{label}: its host ends", (1, b"forkhost: journal not written\n"), (ends.status, ends.fault))
     world.one.boot()
     ended(world, label, folder, new)
 

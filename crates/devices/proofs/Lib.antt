@@ -1,1 +1,5 @@
+pub mod ByteLemmas
+pub mod CopyLemmas
+pub mod LossLemmas
+pub mod NameLemmas
 pub mod TreeLemmas

@@ -54,33 +54,33 @@ remove_none files path none = same_map name_total name_exact _ _ (λ q. get-remo
     by q false e = refl
 
 -- ---- the notes make the files
-pub files_are : (notes : List Note) (files : Files) → Make notes files → files ≡ files_of (past_of notes)
-files_are notes files make = same_map name_total name_exact _ _ make
+pub files_are : (base : Files) (notes : List Note) (files : Files) → Make base notes files → files ≡ files_of (past_of base notes)
+files_are base notes files make = same_map name_total name_exact _ _ make
 
-pub make_of : (notes : List Note) (files : Files) → files ≡ files_of (past_of notes) → Make notes files
-make_of notes files is q = ap (λ (m : Files). get m q) is
+pub make_of : (base : Files) (notes : List Note) (files : Files) → files ≡ files_of (past_of base notes) → Make base notes files
+make_of base notes files is q = ap (λ (m : Files). get m q) is
 
 -- a call that adds a note and changes the files, or neither
-pub made_after : {A E : Type 0} (result : Result A E) (notes new : List Note) (files changed next : Files) (note : Note)
-    → OnOk result ((new ≡ note ∷ notes) × (next ≡ changed)) → OnErr result ((new ≡ notes) × (next ≡ files)) → Make notes files → Make (note ∷ notes) changed → Make new next
-made_after (Ok answer) notes new files changed next note ok err old more = subst (λ (l : List Note). Make l next) (sym ok.0) (subst (Make (note ∷ notes)) (sym ok.1) more)
-made_after (Err fault) notes new files changed next note ok err old more = subst (λ (l : List Note). Make l next) (sym err.0) (subst (Make notes) (sym err.1) old)
+pub made_after : {A E : Type 0} (base : Files) (result : Result A E) (notes new : List Note) (files changed next : Files) (note : Note)
+    → OnOk result ((new ≡ note ∷ notes) × (next ≡ changed)) → OnErr result ((new ≡ notes) × (next ≡ files)) → Make base notes files → Make base (note ∷ notes) changed → Make base new next
+made_after base (Ok answer) notes new files changed next note ok err old more = subst (λ (l : List Note). Make base l next) (sym ok.0) (subst (Make base (note ∷ notes)) (sym ok.1) more)
+made_after base (Err fault) notes new files changed next note ok err old more = subst (λ (l : List Note). Make base l next) (sym err.0) (subst (Make base notes) (sym err.1) old)
 
-pub made_write : (notes : List Note) (files : Files) (path bytes p b : List ℕ) → path ≡ p → bytes ≡ b → Make notes files → Make (Write path bytes ∷ notes) (insert files p b)
-made_write notes files path bytes p b path_is bytes_is old = make_of (Write path bytes ∷ notes) _ (λ i. insert (files_are notes files old i) (sym path_is i) (sym bytes_is i))
+pub made_write : (base : Files) (notes : List Note) (files : Files) (path bytes p b : List ℕ) → path ≡ p → bytes ≡ b → Make base notes files → Make base (Write path bytes ∷ notes) (insert files p b)
+made_write base notes files path bytes p b path_is bytes_is old = make_of base (Write path bytes ∷ notes) _ (λ i. insert (files_are base notes files old i) (sym path_is i) (sym bytes_is i))
 
-pub made_append : (notes : List Note) (files : Files) (path bytes p b whole : List ℕ) → path ≡ p → bytes ≡ b → whole ≡ bytes_or_none (get files p) ++ b → Make notes files → Make (Append path bytes ∷ notes) (insert files p whole)
-made_append notes files path bytes p b whole path_is bytes_is whole_is old =
-    make_of (Append path bytes ∷ notes) _
-    (ap (insert files p) whole_is ∙ (λ i. insert (files_are notes files old i) (sym path_is i) (bytes_or_none (get (files_are notes files old i) (sym path_is i)) ++ sym bytes_is i)))
+pub made_append : (base : Files) (notes : List Note) (files : Files) (path bytes p b whole : List ℕ) → path ≡ p → bytes ≡ b → whole ≡ bytes_or_none (get files p) ++ b → Make base notes files → Make base (Append path bytes ∷ notes) (insert files p whole)
+made_append base notes files path bytes p b whole path_is bytes_is whole_is old =
+    make_of base (Append path bytes ∷ notes) _
+    (ap (insert files p) whole_is ∙ (λ i. insert (files_are base notes files old i) (sym path_is i) (bytes_or_none (get (files_are base notes files old i) (sym path_is i)) ++ sym bytes_is i)))
 
-pub made_rename : (notes : List Note) (files : Files) (from to f t : List ℕ) → from ≡ f → to ≡ t → Make notes files → Make (Rename from to ∷ notes) (put_there (remove files f) t (get files f))
-made_rename notes files from to f t from_is to_is old =
-    make_of (Rename from to ∷ notes) _ (λ i. put_there (remove (files_are notes files old i) (sym from_is i)) (sym to_is i) (get (files_are notes files old i) (sym from_is i)))
+pub made_rename : (base : Files) (notes : List Note) (files : Files) (from to f t : List ℕ) → from ≡ f → to ≡ t → Make base notes files → Make base (Rename from to ∷ notes) (put_there (remove files f) t (get files f))
+made_rename base notes files from to f t from_is to_is old =
+    make_of base (Rename from to ∷ notes) _ (λ i. put_there (remove (files_are base notes files old i) (sym from_is i)) (sym to_is i) (get (files_are base notes files old i) (sym from_is i)))
 
-pub made_remove : (notes new : List Note) (files next : Files) (path p : List ℕ) → path ≡ p → new ≡ Remove path ∷ notes → next ≡ remove files p → Make notes files → Make new next
-made_remove notes new files next path p path_is is next_is old =
-    subst (λ (l : List Note). Make l next) (sym is) (make_of (Remove path ∷ notes) next (next_is ∙ (λ i. remove (files_are notes files old i) (sym path_is i))))
+pub made_remove : (base : Files) (notes new : List Note) (files next : Files) (path p : List ℕ) → path ≡ p → new ≡ Remove path ∷ notes → next ≡ remove files p → Make base notes files → Make base new next
+made_remove base notes new files next path p path_is is next_is old =
+    subst (λ (l : List Note). Make base l next) (sym is) (make_of base (Remove path ∷ notes) next (next_is ∙ (λ i. remove (files_are base notes files old i) (sym path_is i))))
 
 -- ---- a file that gets another path
 pub renamed_none : (files : Files) (from to : List ℕ) → None ≡ get files from → files ≡ put_there (remove files from) to (get files from)

@@ -1,4 +1,6 @@
+pub mod Copy
 pub mod Crash
 pub mod Device
+pub mod Loss
 pub mod Note
 pub mod Runs

@@ -1,6 +1,6 @@
 -- The notes of a device in memory (own): which effects they are, the newest first.
 use Rattle.std.specs.Prelude.{◌≡◌, ℕ, List, [], ◌∷◌}
-use Rattle.std.specs.FinMap.{empty, get}
+use Rattle.std.specs.FinMap.{get}
 use Rattle.devices.specs.Device.{Files, Effect, Past, Wrote, Added, Moved, Removed, SyncedFile, SyncedFolder, FailedFile, FailedFolder, files_of}
 use Rattle.devices.specs.declared.note.Note.{Note}
 use Rattle.devices.specs.declared.note.Note.TheVariants.{Write, Append, Rename, Remove, SyncFile, SyncFolder, FailFile, FailFolder}
@@ -21,10 +21,10 @@ abbrev pub effects_of : List Note → List Effect
 effects_of [] = []
 effects_of (note ∷ notes) = effect_of note ∷ effects_of notes
 
--- what was done to no files
-abbrev pub past_of : List Note → Past
-past_of notes = record { base = empty; effects = effects_of notes }
+-- what was done to the files with which a device began
+abbrev pub past_of : Files → List Note → Past
+past_of base notes = record { base = base; effects = effects_of notes }
 
--- the notes make these files
-abbrev pub Make : List Note → Files → Type 0
-Make notes files = (q : List ℕ) → get files q ≡ get (files_of (past_of notes)) q
+-- of those files the notes make these
+abbrev pub Make : Files → List Note → Files → Type 0
+Make base notes files = (q : List ℕ) → get files q ≡ get (files_of (past_of base notes)) q

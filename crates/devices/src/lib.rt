@@ -2,15 +2,24 @@
 //! clauses say, and they determine what a loss of power may leave.
 #![tactic(auto)]
 
+mod bytes_left;
 mod device;
+mod fate;
+mod kept;
+mod left;
+mod lent;
+mod loss;
 mod memory;
 mod note;
+mod opened;
 mod real;
+mod seen;
 mod std_files;
 mod text;
 mod tree;
 
 pub use crate::device::{Device, DeviceFault};
+pub use crate::fate::Fate;
 pub use crate::memory::Memory;
 pub use crate::real::Real;
 pub use crate::std_files::{

@@ -1,9 +1,12 @@
 ghost use Rattle.std.specs.Prelude.{◌≡◌, ◌∷◌, ◌++◌, [], drop, OnOk, OnErr, IfOk, Some, None, true, option_and_then, option_map};
 ghost use Rattle.std.specs.FinMap as map;
 ghost use Rattle.devices.specs.Device.{bytes_or_none, part_of, put_there, within};
-ghost use Rattle.devices.specs.Note.{Make, past_of};
+ghost use Rattle.devices.specs.Crash.{MayLeave};
+ghost use Rattle.devices.specs.Note.{Make, effects_of, past_of};
 
 use crate::device::{Device, DeviceFault};
+use crate::fate::Fate;
+use crate::loss::left_files;
 use crate::note::Note;
 use crate::text::Text;
 use crate::tree::Tree;
@@ -13,11 +16,13 @@ use std::alloc::{AllocError, Global};
 #[derive(Drop)]
 pub struct Memory {
     alloc: Global,
+    // What it began with.
+    base: Tree,
     files: Tree,
     notes: Vec<Note>,
     // How many calls pass before one fails, if one shall.
     passing: Option<u64>,
-    ghost make: { Make notes.items files },
+    ghost make: { Make base notes.items files },
 }
 
 // Whether this call fails. Counts it off.
@@ -154,10 +159,12 @@ impl Memory {
 
     /// No files.
     pub fn new(alloc: Global) -> Memory
-        ensures { result.notes.items ≡ [] }
+        ensures notes { result.notes.items ≡ [] }
+        ensures base { result.base ≡ map.empty }
     {
         Memory {
             alloc,
+            base: Tree::new(alloc),
             files: Tree::new(alloc),
             notes: Vec::new(alloc),
             passing: None,
@@ -166,14 +173,32 @@ impl Memory {
 
     /// So many calls pass, and the next one fails. What it does is not done, but a sync that fails is one that failed.
     pub fn fail_after(&mut self, passing: u64)
-        ensures { self.new.notes ≡ self.old.notes }
+        ensures notes { self.new.notes ≡ self.old.notes }
+        ensures base { self.new.base ≡ self.old.base }
     {
         self.passing = Some(passing);
+    }
+
+    /// The device that a loss of power leaves of this one. The fate at each place is that of one effect, from the oldest
+    /// on, where a sync that failed is an effect too. An effect that has none is left whole, so no fates lose nothing.
+    pub fn lose_power(&self, fates: &[Fate]) -> Result<Memory, AllocError>
+        ensures may { IfOk result (λ left. MayLeave self.now.base (effects_of self.now.notes.items) left.base) }
+        ensures begun { IfOk result (λ left. left.notes.items ≡ []) }
+    {
+        let base = left_files(self.alloc, &self.base, fates, self.notes.as_slice())?;
+        let files = base.copy(self.alloc)?;
+        Ok(Memory {
+            alloc: self.alloc,
+            base,
+            files,
+            notes: Vec::new(self.alloc),
+            passing: None,
+        })
     }
 }
 
 impl Device for Memory {
-    ghost past = { λ device. past_of device.notes.items };
+    ghost past = { λ device. past_of device.base device.notes.items };
 
     ghost honest = { λ _. true };
 

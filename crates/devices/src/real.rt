@@ -2,6 +2,7 @@ ghost use Rattle.std.specs.Prelude.{false, []};
 ghost use Rattle.std.specs.FinMap as map;
 
 use crate::device::{Device, DeviceFault};
+use crate::opened::{Opened, taken};
 use crate::std_files::{create_folder, found, open_file, open_lock, read_all, readable, regular};
 use std::alloc::Global;
 use std::fs::{File, OpenFile};
@@ -19,6 +20,9 @@ pub struct Real<R> {
     alloc: Global,
     folder: String,
     lock: File,
+    // The file of which a part was read last, and the one that was appended to last, unless a path was changed since.
+    reading: Option<Opened>,
+    appending: Option<Opened>,
 }
 
 // Locks a folder for as long as the returned file is open. The file `lock` stays, whether or not the folder is locked.
@@ -57,6 +61,8 @@ impl<R: Files<File = File> + Drop> Real<R> {
             alloc,
             folder,
             lock,
+            reading: None,
+            appending: None,
         })
     }
 
@@ -82,22 +88,47 @@ impl<R: Files<File = File> + Drop> Real<R> {
         read_all(&self.rt, alloc, path.as_str(), known.len())
     }
 
+    // Opens a regular file to read parts of it.
+    fn open_to_read(&self, path: &str) -> io::Result<Option<Opened>> {
+        let whole = self.path(path)?;
+        let known = fs::metadata(&self.rt, whole.as_str())?;
+        if !known.is_file() {
+            return Ok(None);
+        }
+        let path = String::from_str(self.alloc, path)?;
+        let file = fs::open(&self.rt, whole.as_str())?;
+        let len = known.len();
+        Ok(Some(Opened { path, file, len }))
+    }
+
     // Nothing if it is not a regular file, or is shorter.
     fn read_part_in(
-        &self,
+        &mut self,
         alloc: Global,
         path: &str,
         at: u64,
         len: usize,
     ) -> io::Result<Option<Vec<u8>>> {
-        let path = self.path(path)?;
-        let known = fs::metadata(&self.rt, path.as_str())?;
-        if !known.is_file() || known.len() < at.saturating_add(len as u64) {
+        let opened = match taken(&mut self.reading, path) {
+            Some(opened) => Some(opened),
+            None => self.open_to_read(path)?,
+        };
+        let Some(mut opened) = opened else {
+            return Ok(None);
+        };
+        if !opened.has(at.saturating_add(len as u64))? {
             return Ok(None);
         }
         let mut bytes = vec![in alloc; 0; len]?;
-        fs::open(&self.rt, path.as_str())?.read_exact_at(bytes.as_mut_slice(), at)?;
+        opened.file.read_exact_at(bytes.as_mut_slice(), at)?;
+        self.reading = Some(opened);
         Ok(Some(bytes))
+    }
+
+    // Closes the files that stay open, since a path may lead to another file from now on.
+    fn close(&mut self) {
+        self.reading = None;
+        self.appending = None;
     }
 
     // Opens a file to write it anew or after its end. Creates its folder if somebody removed that.
@@ -110,8 +141,27 @@ impl<R: Files<File = File> + Drop> Real<R> {
         open_file(&self.rt, path.as_str(), is_append)
     }
 
-    fn write_in(&self, path: &str, bytes: &[u8], is_append: bool) -> io::Result<()> {
-        self.open_to_write(path, is_append)?.write_all(bytes)
+    // Opens a regular file to write after its end, or creates it.
+    fn open_to_append(&self, path: &str) -> io::Result<Opened> {
+        let whole = self.path(path)?;
+        found(regular(&self.rt, whole.as_str()))?;
+        let file = self.open_to_write(path, true)?;
+        let path = String::from_str(self.alloc, path)?;
+        Ok(Opened { path, file, len: 0 })
+    }
+
+    fn append_in(&mut self, path: &str, bytes: &[u8]) -> io::Result<()> {
+        let mut opened = match taken(&mut self.appending, path) {
+            Some(opened) => opened,
+            None => self.open_to_append(path)?,
+        };
+        opened.file.write_all(bytes)?;
+        self.appending = Some(opened);
+        Ok(())
+    }
+
+    fn write_in(&self, path: &str, bytes: &[u8]) -> io::Result<()> {
+        self.open_to_write(path, false)?.write_all(bytes)
     }
 
     fn rename_in(&self, from: &str, to: &str) -> io::Result<bool> {
@@ -143,23 +193,48 @@ impl<R: Files<File = File> + Drop> Real<R> {
         }
     }
 
-    fn sync(&self, path: &str, is_folder: bool) -> Result<(), DeviceFault> {
-        let file = match self.opened(path, is_folder) {
-            Ok(Some(file)) => file,
-            Ok(None) if is_folder => return Err(DeviceFault::Missing),
-            Ok(None) => return Ok(()),
-            Err(error) if error.kind() == ErrorKind::OutOfMemory => return Err(DeviceFault::Memory),
-            Err(_) => return Err(DeviceFault::Unopened),
-        };
-        let synced = if is_folder {
-            file.sync_all()
-        } else {
-            file.sync_data()
-        };
-        match synced {
-            Ok(()) => Ok(()),
-            Err(_) => Err(DeviceFault::Device),
+    // Opens what is to be synced.
+    fn opened_to_sync(&self, path: &str, is_folder: bool) -> Result<File, DeviceFault> {
+        match self.opened(path, is_folder) {
+            Ok(Some(file)) => Ok(file),
+            Ok(None) => Err(DeviceFault::Missing),
+            Err(error) => Err(untried(&error)),
         }
+    }
+
+    // Whether the file that is appended to is the one at its path.
+    fn is_at(&self, path: &str, appended: &Opened) -> io::Result<bool> {
+        let path = self.path(path)?;
+        match found(fs::metadata(&self.rt, path.as_str()))? {
+            Some(there) => appended.is_at(there),
+            None => Ok(false),
+        }
+    }
+
+    // Syncs the file that is appended to, if it is the one at its path, through the handle that wrote to it: that one is told of
+    // each error.
+    fn sync_appended(&self, path: &str, appended: &Opened) -> Result<(), DeviceFault> {
+        match self.is_at(path, appended) {
+            Ok(true) => synced(appended.file.sync_data()),
+            Ok(false) => Err(DeviceFault::Device),
+            Err(error) => Err(untried(&error)),
+        }
+    }
+}
+
+// Why what is to be synced could not be looked at.
+fn untried(error: &io::Error) -> DeviceFault {
+    match error.kind() {
+        ErrorKind::OutOfMemory => DeviceFault::Memory,
+        _ => DeviceFault::Unopened,
+    }
+}
+
+// What a sync has done.
+fn synced(answer: io::Result<()>) -> Result<(), DeviceFault> {
+    match answer {
+        Ok(()) => Ok(()),
+        Err(_) => Err(DeviceFault::Device),
     }
 }
 
@@ -208,18 +283,21 @@ impl<R: Files<File = File> + AllocGlobal + Clone + Drop> Device for Real<R> {
     }
 
     fn write(&mut self, path: &str, bytes: &[u8]) -> Result<(), DeviceFault> {
-        told(self.write_in(path, bytes, false))
+        self.close();
+        told(self.write_in(path, bytes))
     }
 
     fn append(&mut self, path: &str, bytes: &[u8]) -> Result<(), DeviceFault> {
-        told(self.write_in(path, bytes, true))
+        told(self.append_in(path, bytes))
     }
 
     fn rename(&mut self, from: &str, to: &str) -> Result<bool, DeviceFault> {
+        self.close();
         told(self.rename_in(from, to))
     }
 
     fn remove(&mut self, path: &str) -> Result<(), DeviceFault> {
+        self.close();
         told(self.remove_in(path))
     }
 
@@ -228,10 +306,19 @@ impl<R: Files<File = File> + AllocGlobal + Clone + Drop> Device for Real<R> {
     }
 
     fn sync_file(&mut self, path: &str) -> Result<(), DeviceFault> {
-        self.sync(path, false)
+        if let Some(appended) = taken(&mut self.appending, path) {
+            let answer = self.sync_appended(path, &appended);
+            self.appending = Some(appended);
+            return answer;
+        }
+        match self.opened_to_sync(path, false) {
+            Ok(file) => synced(file.sync_data()),
+            Err(DeviceFault::Missing) => Ok(()),
+            Err(fault) => Err(fault),
+        }
     }
 
     fn sync_folder(&mut self, folder: &str) -> Result<(), DeviceFault> {
-        self.sync(folder, true)
+        synced(self.opened_to_sync(folder, true)?.sync_all())
     }
 }

@@ -4,6 +4,7 @@ ghost use Rattle.std.specs.FinMap as map;
 ghost use Rattle.std.specs.Option.{option_copied};
 ghost use Rattle.std.specs.Ordering.{nat_cmp};
 ghost use Rattle.std.specs.Cmp.Lexicographic.{slice_cmp};
+ghost use Rattle.devices.specs.Copy.{IsCopy};
 ghost use Rattle.devices.specs.Device.{name_in_folder, names_in_folder, names_of};
 
 use crate::text::Text;
@@ -45,7 +46,7 @@ fn take_out(files: &mut BTreeMap<Text, Text>, path: &Text)
 }
 
 // The name that a path has right in a folder, if it is there.
-fn name_in<'a>(path: &'a [u8], folder: &[u8]) -> Option<&'a [u8]>
+pub(crate) fn name_in<'a>(path: &'a [u8], folder: &[u8]) -> Option<&'a [u8]>
     ensures { names_of (option_map (λ name. name.now) result) ≡ name_in_folder folder.now path.now }
 {
     let Some(name) = path.strip_prefix(folder) else {
@@ -114,4 +115,39 @@ impl Tree {
         }
         Ok(names)
     }
+
+    // The paths of the files, ascending.
+    pub(crate) fn paths(&self, alloc: Global) -> Result<Vec<Text>, AllocError>
+        ensures { IfOk result (λ paths. paths.items ≡ map.keys self.now) }
+    {
+        let mut paths = Vec::new(alloc);
+        for path in self.files.keys() {
+            paths.push(Text::new(alloc, path.as_bytes())?)?;
+        }
+        Ok(paths)
+    }
+
+    // The same files.
+    pub(crate) fn copy(&self, alloc: Global) -> Result<Tree, AllocError>
+        ensures { IfOk result (λ copy. copy ≡ self.now) }
+    {
+        let paths = self.paths(alloc)?;
+        copied_among(alloc, self, paths.as_slice())
+    }
+}
+
+// The files of others at these paths.
+fn copied_among(alloc: Global, files: &Tree, paths: &[Text]) -> Result<Tree, AllocError>
+    ensures { IfOk result (λ copy. IsCopy paths.now files.now copy) }
+{
+    let Some((path, others)) = paths.split_first() else {
+        return Ok(Tree::new(alloc));
+    };
+    let mut copy = copied_among(alloc, files, others)?;
+    let Some(bytes) = files.get(path) else {
+        return Ok(copy);
+    };
+    let bytes = Text::new(alloc, bytes.as_bytes())?;
+    copy.insert(Text::new(alloc, path.as_bytes())?, bytes)?;
+    Ok(copy)
 }

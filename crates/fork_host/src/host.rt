@@ -12,7 +12,7 @@ ghost use Rattle.fork_model.specs.View.{View};
 ghost use Rattle.fork_model.specs.World.{Explains, IsUnfaulted, LeavesOffers, alone, exchanges, meeting, met, own, told};
 ghost use Rattle.state_text.specs.Kept.{states_of};
 ghost use Rattle.fork_ledger.specs.Store.{IsOver, LeavesStore};
-ghost use Rattle.fork_ledger.specs.Tenants.{with_tenant};
+ghost use Rattle.fork_ledger.specs.Tenants.{private_of, with_tenant};
 ghost use Rattle.fork_host.specs.Adding.{new_account, new_view, refusal_to_add};
 ghost use Rattle.fork_host.specs.Bounds.{IsBounded};
 ghost use Rattle.fork_host.specs.Opening.{reading_told};
@@ -113,6 +113,13 @@ impl<S: LooseFiles> Host<S> {
         ensures { result ≡ length self.now.vault.places.names }
     {
         self.vault.census()
+    }
+
+    /// How many objects a tenant sees. Takes time linear in what it holds.
+    pub fn seen_count(&self, tenant: &TenantName) -> usize
+        ensures { result ≡ map.len (private_of self.now.vault.tenants tenant.now).visible }
+    {
+        self.vault.seen_count(tenant)
     }
 
     /// What outlives the host's process: the limit of each tenant, its repositories, the names of the objects that it

@@ -1,20 +1,26 @@
 -- The catalogue's names and the files, as one name comes or leaves.
-use Rattle.std.proofs.Common.{◌≡◌, ◌≢◌, ℕ, List, [], ◌∷◌, ◌++◌, ◌||◌, ◌&&◌, not, Bool, true, false, None, cond, is_some, refl, sym, ap, ◌∙◌}
+use Rattle.std.proofs.Common.{◌≡◌, ◌≢◌, ◌⊎◌, ◌<◌, inl, inr, ℕ, List, [], ◌∷◌, ◌++◌, ◌||◌, ◌&&◌, not, Bool, true, false, None, cond, is_some, length, refl, sym, ap, subst, ◌∙◌, arith}
+use Rattle.std.specs.Prelude.{Contains}
 use Rattle.std.specs.Cmp.{eq_by_cmp_equiv}
 use Rattle.std.specs.FinMap.{contains_key, contains_key-keys, get, get-remove, keys, remove}
 use Rattle.std.specs.List.{AllByRecursion, IsDistinct, list_any}
 use Rattle.std.specs.Ordering.{eq_by_cmp}
 use Rattle.std.proofs.lemmas.Cmp.{nat_list_eq_equiv}
+use Rattle.std.proofs.lemmas.List.{append-nil}
+use Rattle.std.proofs.lemmas.List.Elements.{Contains-push_cases}
 use Rattle.std.proofs.lemmas.Map.Keys.{IsDistinct-from_sorted}
 use Rattle.git_name.specs.Name.{name_cmp}
 use Rattle.git_name.proofs.Names.{name_total}
 use Rattle.git_name.specs.Same.{is_listed, same_name}
 use Rattle.fork_reach.proofs.KeyLemmas.{keys_ascend}
+use Rattle.looks.specs.Growth.{AreNew, GrowsAmong}
 use Rattle.looks.specs.Places.{Places}
 use Rattle.object_table.specs.Rows.{LooksNextAt}
 use Rattle.object_table.proofs.PlaceLemmas.{one_name, own_name}
 use Rattle.object_table.proofs.HolderLemmas.{same_tests}
 use Rattle.loose_store.specs.Files.{Files, SameBut}
+use Rattle.loose_store.specs.Stored.{Whole}
+use Rattle.fork_ledger.specs.AllStaged.{StaysWhole}
 use Rattle.fork_ledger.specs.Kept.{Covers, IsExact}
 
 pub false_is_true : (G : Type 0) → false ≡ true → G
@@ -90,3 +96,31 @@ distinct_names (name ∷ names) all = (unlike name names all.0, distinct_names n
 
 pub keys_distinct : (files : Files) → IsDistinct same_name (keys files)
 keys_distinct files = distinct_names (keys files) (IsDistinct-from_sorted name_cmp (keys files) (keys_ascend files))
+
+-- a file comes under a name that no file has
+pub new_stays : (files after : Files) (name : List ℕ) → contains_key files name ≡ false → SameBut name files after → StaysWhole files after
+new_stays files after name absent but q object whole = by_name _ name q
+    (λ same. false_is_true _ (sym absent ∙ ap (λ n. is_some (get files n)) same ∙ ap is_some whole.file))
+    (λ apart differs. record { file = but q apart ∙ whole.file; named = whole.named })
+
+sole : (name x : List ℕ) → Contains (name ∷ []) x → name ≡ x
+sole name x inside = by (Contains-push_cases [] name x inside)
+  where
+    by : Contains [] x ⊎ (name ≡ x) → name ≡ x
+    by (inl nowhere) = (let within = nowhere.1 in absurd (omega (arith, within)))
+    by (inr same) = same
+
+longer_new : (old added : List (List ℕ)) (name : List ℕ) → AreNew old added → AllByRecursion (Contains (name ∷ [])) added → length old < length (old ++ added) → is_listed old name ≡ false
+longer_new old [] name fresh among longer = (let same : length old < length old = subst (λ xs. length old < length xs) (append-nil old) longer in absurd (omega (arith, same)))
+longer_new old (x ∷ added) name fresh among longer = subst (λ n. is_listed old n ≡ false) (sym (sole name x among.0)) fresh.0
+
+-- no file has a name that made the catalogue longer
+pub uncovered : (files : Files) (old new : Places) (name : List ℕ) → Covers files old → GrowsAmong (name ∷ []) old new → length old.names < length new.names → contains_key files name ≡ false
+uncovered files old new name cover grows longer = by (contains_key files name) refl
+  where
+    apart : is_listed old.names name ≡ false
+    apart = longer_new old.names grows.added name grows.fresh grows.among (subst (λ xs. length old.names < length xs) grows.parts longer)
+
+    by : (b : Bool) → contains_key files name ≡ b → contains_key files name ≡ false
+    by true there = false_is_true _ (sym apart ∙ cover name there)
+    by false absent = absent

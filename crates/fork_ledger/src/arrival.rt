@@ -25,15 +25,18 @@ pub(crate) fn store_fault(fault: FileFault) -> VaultFault
     }
 }
 
-// Makes sure that the file of an object is whole. A missing file is written. A whole file is compared with the object
-// and never overwritten. A damaged file is overwritten only if no tenant holds the name. Returns the object, unless the
-// store keeps it.
+// Makes sure that the file of an object is whole. A missing file is written, and so is one of a new name, which no file
+// has, so the store is not asked. A whole file is compared with the object and never overwritten. A damaged file is
+// overwritten only if no tenant holds the name. Returns the object, unless the store keeps it.
+#[tactic(auto, using(crate::proofs::CoverLemmas::new_stays))]
 pub(crate) fn arrive<S: LooseFiles>(
     alloc: Global,
     files: &mut CachedStore<S>,
+    is_new: bool,
     is_held: bool,
     sealed: Sealed,
 ) -> Result<Option<Sealed>, VaultFault>
+    requires new { is_new ≡ true → IsTrue files.old.honest → contains_key files.old.contents (object_name sealed) ≡ false }
     ensures whole { IsTrue files.old.honest → OnOk result (Whole files.new.contents (object_name sealed) sealed) }
     ensures others { IsTrue files.old.honest → SameBut (object_name sealed) files.old.contents files.new.contents }
     ensures stands { IsTrue files.old.honest → StaysWhole files.old.contents files.new.contents }
@@ -46,6 +49,9 @@ pub(crate) fn arrive<S: LooseFiles>(
     ensures honest { files.new.honest ≡ files.old.honest }
     ensures cause { CountsFault files.old.failures files.new.failures (fault_in result) }
 {
+    if is_new {
+        return put_whole(alloc, files, sealed);
+    }
     let name = sealed.name();
     match files.read_past(alloc, name) {
         Ok(Some(found)) => {

@@ -46,6 +46,7 @@ pub(crate) fn recall(
     match holdings.stage(tenant, name, kind, length) {
         Ok(()) => Ok(()),
         Err(StageFault::Memory) => Err(RecallFault::Memory),
+        Err(StageFault::Unlisted) => unreachable!(),
         Err(StageFault::Clash) => Err(RecallFault::Collision),
     }
 }

@@ -23,13 +23,14 @@ use std::alloc::{AllocError, Global};
 
 // Adds an object's name to the catalogue, and makes sure that its file is whole. Returns the object, unless the store
 // keeps it.
-#[tactic(auto, using(crate::proofs::StoredLemmas::stores_alone))]
+#[tactic(auto, using(crate::proofs::StoredLemmas::stores_alone, crate::proofs::CoverLemmas::uncovered))]
 pub(crate) fn receive<S: LooseFiles>(
     alloc: Global,
     files: &mut CachedStore<S>,
     holdings: &mut Holdings,
     sealed: Sealed,
 ) -> Result<Option<Sealed>, VaultFault>
+    requires covers { IsTrue files.old.honest → Covers files.old.contents (places_of holdings.old.catalogue) }
     ensures ledgers { holdings.new.ledgers ≡ holdings.old.ledgers }
     ensures links { holdings.new.links ≡ holdings.old.links }
     ensures listed { OnOk result ((q : List ℕ) → is_listed (places_of holdings.new.catalogue).names q ≡ (same_name (object_name sealed) q || is_listed (places_of holdings.old.catalogue).names q)) }
@@ -49,11 +50,13 @@ pub(crate) fn receive<S: LooseFiles>(
     ensures cause { CountsFault files.old.failures files.new.failures (fault_in result) }
 {
     let name = sealed.name();
+    let before = holdings.len();
     let Ok(()) = holdings.enter(name) else {
         return Err(VaultFault::Memory);
     };
+    let is_new = holdings.len() > before;
     let is_held = holdings.is_held(name);
-    match arrive(alloc, files, is_held, sealed) {
+    match arrive(alloc, files, is_new, is_held, sealed) {
         Ok(back) => Ok(back),
         Err(fault) => Err(fault),
     }
@@ -91,6 +94,7 @@ pub(crate) fn receive_all<S: LooseFiles>(
     holdings: &mut Holdings,
     objects: Vec<Sealed>,
 ) -> Result<Vec<Sealed>, VaultFault>
+    requires covers { IsTrue files.old.honest → Covers files.old.contents (places_of holdings.old.catalogue) }
     ensures ledgers { holdings.new.ledgers ≡ holdings.old.ledgers }
     ensures links { holdings.new.links ≡ holdings.old.links }
     ensures listed { OnOk result (AreListed (places_of holdings.new.catalogue) (map_list entry_of objects.items)) }

@@ -38,6 +38,7 @@ pub(crate) fn stage_whole<S: LooseFiles>(
     tenant: &TenantName,
     sealed: Sealed,
 ) -> Result<(), VaultFault>
+    requires covers { IsTrue files.old.honest → Covers files.old.contents (places_of holdings.old.catalogue) }
     ensures ok { OnOk result (holdings.new.ledgers ≡ at_ledger holdings.old.ledgers tenant.now (staged_words (object_name sealed) sealed.kind (length sealed.bytes))) }
     ensures err { OnErr result (holdings.new.ledgers ≡ holdings.old.ledgers) }
     ensures links { holdings.new.links ≡ holdings.old.links }
@@ -71,6 +72,7 @@ fn stage_fit<S: LooseFiles>(
     tenant: &TenantName,
     sealed: Sealed,
 ) -> Result<(), VaultFault>
+    requires covers { IsTrue files.old.honest → Covers files.old.contents (places_of holdings.old.catalogue) }
     requires told { IsAsTold holdings.old.ledgers sealed }
     ensures ok { OnOk result (holdings.new.ledgers ≡ at_ledger holdings.old.ledgers tenant.now (staged_words (object_name sealed) sealed.kind (length sealed.bytes))) }
     ensures err { OnErr result (holdings.new.ledgers ≡ holdings.old.ledgers) }
@@ -96,6 +98,7 @@ fn stage_fit<S: LooseFiles>(
     match holdings.stage(tenant, entry.name, entry.kind, entry.length) {
         Ok(()) => Ok(()),
         Err(StageFault::Memory) => Err(VaultFault::Memory),
+        Err(StageFault::Unlisted) => unreachable!(),
         Err(StageFault::Clash) => unreachable!(),
     }
 }
@@ -109,6 +112,7 @@ pub(crate) fn stage_all_whole<S: LooseFiles>(
     tenant: &TenantName,
     objects: Vec<Sealed>,
 ) -> Result<Vec<Sealed>, VaultFault>
+    requires covers { IsTrue files.old.honest → Covers files.old.contents (places_of holdings.old.catalogue) }
     ensures ok { OnOk result (holdings.new.ledgers ≡ at_ledger holdings.old.ledgers tenant.now (all_staged_words (map_list entry_of objects.items))) }
     ensures err { OnErr result (holdings.new.ledgers ≡ holdings.old.ledgers) }
     ensures links { LearnsOf objects.items holdings.old.links holdings.new.links }
@@ -154,6 +158,7 @@ fn stage_all_fit<S: LooseFiles>(
     tenant: &TenantName,
     objects: Vec<Sealed>,
 ) -> Result<Vec<Sealed>, VaultFault>
+    requires covers { IsTrue files.old.honest → Covers files.old.contents (places_of holdings.old.catalogue) }
     requires told { All (IsAsTold holdings.old.ledgers) objects.items }
     ensures ok { OnOk result (holdings.new.ledgers ≡ at_ledger holdings.old.ledgers tenant.now (all_staged_words (map_list entry_of objects.items))) }
     ensures err { OnErr result (holdings.new.ledgers ≡ holdings.old.ledgers) }
@@ -181,6 +186,7 @@ fn stage_all_fit<S: LooseFiles>(
     match stage_received(alloc, holdings, tenant, entries.as_slice(), received) {
         Ok(back) => Ok(back),
         Err(StageFault::Memory) => Err(VaultFault::Memory),
+        Err(StageFault::Unlisted) => unreachable!(),
         Err(StageFault::Clash) => Err(VaultFault::Collision),
     }
 }
@@ -193,9 +199,9 @@ fn stage_received(
     entries: &[Entry],
     received: Vec<Sealed>,
 ) -> Result<Vec<Sealed>, StageFault>
-    requires listed { AreListed (places_of holdings.old.catalogue) entries.now }
     ensures ok { OnOk result (holdings.new.ledgers ≡ at_ledger holdings.old.ledgers tenant.now (all_staged_words entries.now)) }
     ensures err { OnErr result (holdings.new.ledgers ≡ holdings.old.ledgers) }
+    ensures unlisted { IfErr result (λ fault. fault ≡ StageFault.Unlisted → AreListed (places_of holdings.old.catalogue) entries.now → ⊥) }
     ensures clash { IfErr result (λ fault. fault ≡ StageFault.Clash → Clash holdings.old.ledgers entries.now) }
     ensures places { places_of holdings.new.catalogue ≡ places_of holdings.old.catalogue }
     ensures links { LearnsOf received.items holdings.old.links holdings.new.links }

@@ -77,6 +77,21 @@ fn attended<H: Clock>(rt: &H, alloc: Global, table: &mut Table) -> Result<(), Fa
     }
 }
 
+// Waits until there is something to do, and then looks whether the folder is still there.
+fn attended_kept<H: Files<File = File> + Clock>(
+    rt: &H,
+    alloc: Global,
+    keep: &mut Keep<'_, H>,
+    table: &mut Table,
+) -> Result<(), Fault>
+    ensures { IfErr result (λ fault. IsUnbound fault ⊎ IsLost fault) }
+{
+    match table.attend(rt, alloc) {
+        Ok(()) => keep.check_folder(),
+        Err(error) => Err(of_socket(error)),
+    }
+}
+
 // Tidies the table after a round. Returns whether a connection ended.
 fn tidied<H: Clock>(rt: &H, table: &mut Table) -> Result<bool, Fault>
     ensures { IfErr result IsUnbound }
@@ -144,7 +159,7 @@ fn kept_rounds<H: Files<File = File> + AllocGlobal + Clock + Eprint, S: LooseFil
         if table.is_done() {
             return Ok(());
         }
-        attended(rt, alloc, table)?;
+        attended_kept(rt, alloc, keep, table)?;
         keep.look();
         visit_all(host, alloc, &mut keep.journal, table, buffer)?;
         let ended = tidied(rt, table)?;

@@ -13,7 +13,8 @@ use fork_host::Host;
 use fork_state::save;
 use fork_wire::write_uploads;
 use git_name::Name;
-use loose_store::{LooseFiles, Reserve, begin_journal, begin_state, clear_journals, drop_state};
+use host_folder::{Reserve, begin_journal, begin_state, clear_journals, drop_state};
+use loose_store::LooseFiles;
 use state_text::{Spelled, States, write};
 use std::alloc::Global;
 use std::fs::{File, Files, OpenFile};
@@ -37,23 +38,36 @@ pub(crate) struct Draft {
     pub(crate) begun: Begun,
 }
 
-// Writes the text of these states into the part of the folder's state, and syncs it.
+// Whether there was no room.
+fn lacks_room(error: &io::Error) -> bool {
+    matches!(
+        error.kind(),
+        ErrorKind::StorageFull | ErrorKind::QuotaExceeded
+    )
+}
+
+// Writes the text of these states into the part of the folder's state, and syncs it. Returns `None` if the part cannot be
+// opened, as without descriptors.
 fn write_part<H: Files<File = File>>(
     rt: &H,
     alloc: Global,
     dir: &str,
     states: &States,
-) -> io::Result<Spelled>
-    ensures { IfOk result (λ spelled. spelled.name ≡ sha256 (state_text Two states.now)) }
+) -> io::Result<Option<Spelled>>
+    ensures { IfOk result (λ found. IfSome found (λ spelled. spelled.name ≡ sha256 (state_text Two states.now))) }
 {
-    let mut file = begin_state(rt, alloc, dir)?;
+    let mut file = match begin_state(rt, alloc, dir) {
+        Ok(file) => file,
+        Err(error) if lacks_room(&error) => return Err(error),
+        Err(_) => return Ok(None),
+    };
     let spelled = write(alloc, states, &mut file)?;
     file.sync_all()?;
-    Ok(spelled)
+    Ok(Some(spelled))
 }
 
-// The same, and once more from the beginning if the reserve made room for it. Returns `None` if there is no memory. After a
-// `None` or an `Err` there is no part.
+// The same, and once more from the beginning if the reserve made room for it. Returns `None` if there is no memory, too. After
+// a `None` or an `Err` there is no part.
 fn written<H: Files<File = File>>(
     rt: &H,
     alloc: Global,
@@ -69,7 +83,11 @@ fn written<H: Files<File = File>>(
         answer => answer,
     };
     match answer {
-        Ok(spelled) => Ok(Some(spelled)),
+        Ok(Some(spelled)) => Ok(Some(spelled)),
+        Ok(None) => {
+            drop_state(rt, alloc, dir);
+            Ok(None)
+        }
         Err(error) => {
             drop_state(rt, alloc, dir);
             if error.kind() == ErrorKind::OutOfMemory {
@@ -157,7 +175,8 @@ fn with_uploads<H: Files<File = File> + AllocGlobal, S: LooseFiles>(
 }
 
 // Drafts the host's state, with an empty journal. The folder still has its old state and its journal. Returns `None` if
-// there is no memory, or if the journal cannot be begun. After a `None` or an `Err` the folder has no part of the new state.
+// there is no memory, or if the part or the journal cannot be begun. After a `None` or an `Err` the folder has no part of
+// the new state.
 pub(crate) fn closed<H: Files<File = File> + AllocGlobal, S: LooseFiles>(
     rt: &H,
     alloc: Global,

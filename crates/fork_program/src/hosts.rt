@@ -3,12 +3,12 @@ ghost use Rattle.fork_program.specs.Running.{IsHostOf, IsUnhosted};
 
 use crate::fault::Fault;
 use crate::first_tenants::add_tenants;
-use crate::objects::Objects;
+use crate::objects::{Guards, Objects};
 use crate::restoring::kept_host;
 use fork_command::Hosting;
 use fork_host::Host;
 use git_name::{Hashing, Name};
-use loose_store::{Gate, Memory};
+use loose_store::Memory;
 use std::alloc::Global;
 use std::fs::{File, Files};
 use std::random::RandomSource;
@@ -35,20 +35,20 @@ pub(crate) fn host_in_memory<H: RandomSource>(
 }
 
 /// The host that a folder keeps, with the given tenants added, the name of the state's journal, and the
-/// folder's gate.
+/// folder's guards.
 pub(crate) fn host_in_folder<'a, H: Files<File = File> + AllocGlobal + RandomSource>(
     rt: &'a H,
     alloc: Global,
     dir: &str,
     hosting: Hosting<'_>,
-) -> Result<(Host<Objects<'a, H>>, Name, Gate), Fault>
+) -> Result<(Host<Objects<'a, H>>, Name, Guards), Fault>
     requires { is_some hosting.dir ≡ true }
     ensures ok { IfOk result (λ found. IsHostOf hosting.entry found.0) }
     ensures err { IfErr result (IsUnhosted hosting.entry) }
 {
-    let (mut host, standing, gate) = kept_host(rt, alloc, dir, hosting.packed)?;
+    let (mut host, standing, guards) = kept_host(rt, alloc, dir, hosting.packed)?;
     match add_tenants(&mut host, alloc, hosting.tenants) {
-        Ok(()) => Ok((host, standing, gate)),
+        Ok(()) => Ok((host, standing, guards)),
         Err(fault) => Err(fault),
     }
 }

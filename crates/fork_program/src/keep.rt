@@ -6,11 +6,13 @@ use crate::fault::Fault;
 use crate::roomy::Roomy;
 use crate::saving::{Settled, number_of, put};
 use crate::upload_log::{NotLogged, UploadLog};
+use crate::watching::is_in_place;
 use chained_log::LogWriter;
 use fork_host::Host;
 use fork_wire::Written;
 use git_name::Name;
-use loose_store::{FileFault, LooseFiles, Reserve};
+use host_folder::{Reserve, Watch};
+use loose_store::{FileFault, LooseFiles};
 use std::alloc::Global;
 use std::cell::Cell;
 use std::fs::{File, Files};
@@ -19,7 +21,7 @@ use std::time::Instant;
 // A journal may always grow by this many bytes.
 const SPARE: u64 = 1_048_576;
 
-// How many objects the requests of a journal may visit: about a second of work.
+// How many objects the requests of a journal may visit: some seconds of work, minutes over a folder.
 const MOST_VISITED: u64 = 16_777_216;
 
 // Of so many frames it is copied what they have of uploads: less than half a second of work.
@@ -37,14 +39,20 @@ pub struct Keep<'a, H> {
     len: u64,
     // How many bytes the open uploads had at the beginning of the log to which the journal refers, or have at its own.
     uploads: u64,
+    // With fewer bytes the journal is not long, since a try to save the state at 1 MiB less had no result.
+    again: u64,
     // The number of that log, 0 if there is none, and the log itself unless it could not be written.
     number: u64,
     log: Option<UploadLog>,
     // Whether its journals are synced.
-    syncs: bool,
+    pub(crate) syncs: bool,
     pub(crate) reserve: Reserve,
-    // When a reserve that was given back may be made again.
+    // When a reserve that was given back is tried to be made again, and how many seconds after that once more.
     pub(crate) due: Cell<Option<Instant>>,
+    pub(crate) gap: Cell<u64>,
+    // By which it is noticed that the folder is gone, and when that is looked for again.
+    pub(crate) watch: Option<Watch>,
+    pub(crate) next_look: Cell<Option<Instant>>,
 }
 
 // Syncs some object files before the next save does, if there are many.
@@ -69,7 +77,7 @@ fn is_uploading<S: LooseFiles>(alloc: Global, host: &Host<S>) -> bool {
 impl<'a, H: Files<File = File> + AllocGlobal> Keep<'a, H> {
     /// Saves the host's state in its folder, which has the state `standing`, and begins a journal after it.
     /// After an `Err` the folder has its old state or the new one, and what belongs to that state. The reserve is
-    /// for this and all that is kept later.
+    /// for this and all that is kept later. The watch is on the folder's lock since it was locked.
     pub fn begin<S: LooseFiles>(
         rt: &'a H,
         alloc: Global,
@@ -78,13 +86,18 @@ impl<'a, H: Files<File = File> + AllocGlobal> Keep<'a, H> {
         host: &mut Host<S>,
         syncs: bool,
         reserve: Reserve,
+        watch: Watch,
     ) -> Result<Keep<'a, H>, Fault>
         ensures cause { IfErr result (λ fault. fault ≡ Fault.NotSaved) }
         ensures syncs { IfOk result (λ keep. (keep.syncs ≡ syncs) × (keep.journal.syncs ≡ syncs)) }
         ensures saved { IsSaved host.old host.new }
     {
+        if !is_in_place(rt, &watch) {
+            return Err(Fault::NotSaved);
+        }
+        let watch = Some(watch);
         match drafted(rt, alloc, dir, standing, host, &reserve, None) {
-            Ok(Some(draft)) => Keep::over(rt, alloc, dir, host, None, draft, syncs, reserve),
+            Ok(Some(draft)) => Keep::over(rt, alloc, dir, host, None, draft, syncs, reserve, watch),
             Ok(None) => Err(Fault::NotSaved),
             Err(fault) => Err(fault),
         }
@@ -100,6 +113,7 @@ impl<'a, H: Files<File = File> + AllocGlobal> Keep<'a, H> {
         draft: Draft,
         syncs: bool,
         reserve: Reserve,
+        watch: Option<Watch>,
     ) -> Result<Keep<'a, H>, Fault>
         ensures cause { IfErr result (λ fault. fault ≡ Fault.NotSaved) }
         ensures host { host.new ≡ host.old }
@@ -121,17 +135,21 @@ impl<'a, H: Files<File = File> + AllocGlobal> Keep<'a, H> {
             name,
             len,
             uploads,
+            again: 0,
             number: number_of(&log),
             log,
             syncs,
             reserve,
             due: Cell::new(None),
+            gap: Cell::new(1),
+            watch,
+            next_look: Cell::new(None),
         })
     }
 
     /// Saves the host's state at the end of serving, with an empty journal, and makes sweeps final. So no open
-    /// upload survives the end. If serving ended because the folder could not be written, the folder is left as
-    /// it is, as after a kill. After an `Err` the folder has what it had, or the new state.
+    /// upload survives the end. If serving ended because the folder could not be written, or if the folder is not where
+    /// it was, it is left as it is, as after a kill. After an `Err` the folder has what it had, or the new state.
     pub fn end<S: LooseFiles>(
         &self,
         alloc: Global,
@@ -142,6 +160,9 @@ impl<'a, H: Files<File = File> + AllocGlobal> Keep<'a, H> {
     {
         if let Err(Fault::NotKept | Fault::NotSaved) = served {
             return Ok(());
+        }
+        if !self.is_in_place() {
+            return Err(Fault::NotSaved);
         }
         if self.journal.bytes() == 0 && !is_uploading(alloc, host) {
             let _forgotten = host.forget_removed(alloc);
@@ -167,9 +188,11 @@ impl<'a, H: Files<File = File> + AllocGlobal> Keep<'a, H> {
 
     // Whether a start would take long to repeat the journal: by its bytes, or by the objects that its requests
     // visit.
-    fn is_long<S: LooseFiles>(&self, host: &Host<S>) -> bool {
-        self.journal.bytes() > self.len.saturating_add(self.uploads).max(SPARE)
-            || self.journal.visits().saturating_mul(host.census()) > MOST_VISITED
+    fn is_long(&self) -> bool {
+        let bytes = self.journal.bytes();
+        bytes >= self.again
+            && (bytes > self.len.saturating_add(self.uploads).max(SPARE)
+                || self.journal.visits() > MOST_VISITED)
     }
 
     // Whether the open uploads are to be in a log. Few bytes are spelled in each journal anew.
@@ -211,19 +234,33 @@ impl<'a, H: Files<File = File> + AllocGlobal> Keep<'a, H> {
 
     /// Saves the host's state if the journal is long, or if anything was swept. The old state stays and its
     /// journal goes on if an upload's object cannot be read, if there is no memory, or if there are no descriptors
-    /// to sync object files or to begin a journal. After an `Err` nothing more may be kept.
+    /// to sync object files, or to begin a state or a journal. Then the journal counts as long once it has 1 MiB
+    /// more. A folder that is not where it was is left as it is. After an `Err` nothing more may be kept.
     pub fn settle<S: LooseFiles>(&mut self, alloc: Global, host: &mut Host<S>) -> Result<(), Fault>
         ensures cause { IfErr result (λ fault. fault ≡ Fault.NotSaved) }
         ensures syncs { (self.old.journal.syncs ≡ self.old.syncs) → (self.new.journal.syncs ≡ self.old.syncs) × (self.new.syncs ≡ self.old.syncs) }
         ensures saved { IsSaved host.old host.new }
     {
-        if !self.is_long(host) && !host.has_removed() {
+        if !self.is_long() && !host.has_removed() {
             return sync_ahead(alloc, host);
+        }
+        if !self.is_in_place() {
+            return Err(Fault::NotSaved);
         }
         if self.journal.bytes() == 0 {
             let _forgotten = host.forget_removed(alloc);
             return Ok(());
         }
+        self.again = self.journal.bytes().saturating_add(SPARE);
+        self.save(alloc, host)
+    }
+
+    // Saves the host's state, if nothing is lacking.
+    fn save<S: LooseFiles>(&mut self, alloc: Global, host: &mut Host<S>) -> Result<(), Fault>
+        ensures cause { IfErr result (λ fault. fault ≡ Fault.NotSaved) }
+        ensures syncs { (self.old.journal.syncs ≡ self.old.syncs) → (self.new.journal.syncs ≡ self.old.syncs) × (self.new.syncs ≡ self.old.syncs) }
+        ensures saved { IsSaved host.old host.new }
+    {
         match host.sync(alloc) {
             Ok(()) => {}
             Err(FileFault::Memory) => return Ok(()),
@@ -256,6 +293,7 @@ impl<'a, H: Files<File = File> + AllocGlobal> Keep<'a, H> {
             draft,
             self.syncs,
             reserve,
+            self.watch.take(),
         ) {
             Ok(keep) => {
                 *self = keep;
@@ -276,7 +314,7 @@ impl<'a, H: Files<File = File> + AllocGlobal> Keep<'a, H> {
         ensures syncs { (self.old.journal.syncs ≡ self.old.syncs) → (self.new.journal.syncs ≡ self.old.syncs) × (self.new.syncs ≡ self.old.syncs) }
         ensures saved { IsSaved host.old host.new }
     {
-        if !ended && !self.is_long(host) {
+        if !ended && !self.is_long() {
             return sync_ahead(alloc, host);
         }
         self.settle(alloc, host)

@@ -26,6 +26,7 @@ mod log_reference;
 mod objects;
 mod one_after_another;
 mod open_connections;
+mod pause;
 mod peer;
 mod repack;
 mod replaying;
@@ -44,6 +45,7 @@ mod tenants;
 mod trial;
 mod upgrade;
 mod upload_log;
+mod watching;
 
 pub use crate::cause::tell_cause;
 pub use crate::entry::{Untold, program};

@@ -84,6 +84,7 @@ fn visits<H: Files<File = File> + AllocGlobal + Clock + Eprint, S: LooseFiles>(
 {
     for _ in 0..u64::MAX {
         keep.look();
+        keep.check_folder()?;
         let goes_on = visit(host, alloc, &mut keep.journal, connection, reader, writer)?;
         if !goes_on {
             return Ok(());

@@ -7,7 +7,8 @@ use crate::restoring::{has_state, restored_host};
 use crate::telling::of_store;
 use devices::Real;
 use either::{Left, Right};
-use loose_store::{FileFault, Folder};
+use folder_store::Folder;
+use loose_store::FileFault;
 use packed_store::{Layout, Segments, begin_repack, clear_repack, copy_files, settle_repack};
 use std::alloc::Global;
 use std::fs::{File, Files};
@@ -134,7 +135,7 @@ pub fn repack<H: Files<File = File> + AllocGlobal + RandomSource>(
     ensures { IfErr result IsUnopened }
 {
     has_state(rt, alloc, dir)?;
-    let (mut objects, _gate) = open_objects(rt, alloc, dir, false)?;
+    let (mut objects, _guards) = open_objects(rt, alloc, dir, false)?;
     let done = match made(rt, alloc, dir, packed, &mut objects) {
         Ok(layout) => settled(rt, alloc, dir, layout),
         Err(fault) => {

@@ -1,11 +1,12 @@
 use crate::keep::Keep;
-use loose_store::{Gate, Reserve};
+use crate::pause::is_over;
+use host_folder::{Gate, Reserve};
 use std::alloc::Global;
 use std::fs::{File, Files};
-use std::time::{Clock, Duration, Instant};
+use std::time::Clock;
 
-// After it was given back, a reserve is tried to be made again at most once in so many seconds.
-const PAUSE: u64 = 1;
+// At most so many seconds pass between two tries to make a reserve again. Each fills the disk for a moment if it fails.
+const LONGEST: u64 = 16;
 
 /// The reserve in the folder of a host that is to be served. If it cannot be made, that is told on standard error.
 pub(crate) fn reserved<H: Files<File = File> + Eprint>(
@@ -27,36 +28,34 @@ pub(crate) fn reserved<H: Files<File = File> + Eprint>(
 }
 
 impl<'a, H: Files<File = File> + Clock + Eprint> Keep<'a, H> {
-    // Whether a pause is over since a reserve that was given back was last thought of. Begins the next pause then.
-    fn is_due(&self) -> bool {
-        let Ok(now) = Instant::now(self.rt) else {
-            return false;
-        };
-        if let Some(due) = self.due.get() {
-            if now < due {
-                return false;
-            }
+    // Tries to make the reserve again, and tells if it was.
+    fn try_again(&self) {
+        if !self.reserve.make_again() {
+            self.gap.set(self.gap.get().saturating_mul(2).min(LONGEST));
+            return;
         }
-        self.due.set(now.checked_add(Duration::from_secs(PAUSE)));
-        true
+        let dir = self.dir;
+        let _told = eprintln!(self.rt;
+            "forkhost: {dir}/reserve is made again, and objects are stored"
+        );
     }
 
-    /// Tells on standard error that the reserve was given back, once. Later tries to make it again, once in a second
-    /// at most, and tells if it was.
+    /// Tells on standard error that the reserve was given back, once. Later tries to make it again, after 1, 2, 4 and more
+    /// seconds, and tells if it was.
     pub(crate) fn look(&self) {
         if !self.reserve.is_given_back() {
             return;
         }
         let dir = self.dir;
         if self.reserve.has_news() {
-            self.is_due();
+            self.gap.set(1);
+            self.due.set(None);
+            is_over(self.rt, &self.due, 1);
             let _told = eprintln!(self.rt;
                 "forkhost: no room, so {dir}/reserve is given back, and no objects are stored"
             );
-        } else if self.is_due() && self.reserve.make_again() {
-            let _told = eprintln!(self.rt;
-                "forkhost: {dir}/reserve is made again, and objects are stored"
-            );
+        } else if is_over(self.rt, &self.due, self.gap.get()) {
+            self.try_again();
         }
     }
 }

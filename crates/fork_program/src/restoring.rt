@@ -2,12 +2,13 @@ ghost use Rattle.std.specs.Prelude.{IfErr};
 ghost use Rattle.fork_program.specs.Keeping.{IsUnkept, IsUnopened};
 
 use crate::fault::Fault;
-use crate::objects::{Objects, open_objects};
+use crate::objects::{Guards, Objects, open_objects};
 use crate::replaying::replay;
 use crate::telling::{of_journal, of_load, of_state};
 use fork_host::{Host, OpenError};
 use git_name::Name;
-use loose_store::{Gate, LooseFiles, has_other_journal, journal_name, open_state};
+use host_folder::{has_other_journal, journal_name, open_state};
+use loose_store::LooseFiles;
 use std::alloc::Global;
 use std::fs::{File, Files};
 use std::random::RandomSource;
@@ -81,24 +82,24 @@ pub(crate) fn restored_host<H: Files<File = File> + AllocGlobal, S: LooseFiles +
     }
 }
 
-// The same, over the folder's objects, and the folder's gate. The folder is created if it does not exist. While the host
+// The same, over the folder's objects, and the folder's guards. The folder is created if it does not exist. While the host
 // lives, no other process can open it.
 fn opened_host<'a, H: Files<File = File> + AllocGlobal + RandomSource>(
     rt: &'a H,
     alloc: Global,
     dir: &str,
     packed: bool,
-) -> Result<(Host<Objects<'a, H>>, Name, u64, Gate), Fault>
+) -> Result<(Host<Objects<'a, H>>, Name, u64, Guards), Fault>
     ensures { IfErr result IsUnkept }
 {
-    let (files, gate) = open_objects(rt, alloc, dir, packed)?;
+    let (files, guards) = open_objects(rt, alloc, dir, packed)?;
     match restored_host(rt, alloc, dir, files) {
-        Ok((host, name, count)) => Ok((host, name, count, gate)),
+        Ok((host, name, count)) => Ok((host, name, count, guards)),
         Err(fault) => Err(fault),
     }
 }
 
-/// The host that a folder keeps, the name of the state's journal, and the folder's gate. If the folder keeps no
+/// The host that a folder keeps, the name of the state's journal, and the folder's guards. If the folder keeps no
 /// host, it is one without tenants, whose objects are packed if that is asked for. The folder is created if it does not
 /// exist. While the host lives, no other process can open it.
 pub fn kept_host<'a, H: Files<File = File> + AllocGlobal + RandomSource>(
@@ -106,11 +107,11 @@ pub fn kept_host<'a, H: Files<File = File> + AllocGlobal + RandomSource>(
     alloc: Global,
     dir: &str,
     packed: bool,
-) -> Result<(Host<Objects<'a, H>>, Name, Gate), Fault>
+) -> Result<(Host<Objects<'a, H>>, Name, Guards), Fault>
     ensures { IfErr result IsUnkept }
 {
     match opened_host(rt, alloc, dir, packed) {
-        Ok((host, name, _, gate)) => Ok((host, name, gate)),
+        Ok((host, name, _, guards)) => Ok((host, name, guards)),
         Err(fault) => Err(fault),
     }
 }

@@ -1,7 +1,7 @@
 ghost use Rattle.std.specs.Prelude.{◌≡◌};
 
 use chained_log::SyncData;
-use loose_store::Reserve;
+use host_folder::Reserve;
 use std::io;
 use std::io::Write;
 

@@ -13,7 +13,8 @@ use fork_frame::Ended;
 use fork_host::Host;
 use fork_wire::{Journal, NoJournal, serve_kept};
 use git_name::Name;
-use loose_store::{LooseFiles, Reserve};
+use host_folder::{Reserve, Watch};
+use loose_store::LooseFiles;
 use std::alloc::Global;
 use std::fs::{File, Files};
 use std::io::{Read, Write};
@@ -51,13 +52,23 @@ fn keep_session<'x, H: Files<File = File> + AllocGlobal, S: LooseFiles, R: Read,
     reader: &mut R,
     writer: &mut W,
     syncs: bool,
+    watch: Watch,
 ) -> Result<(), Fault>
     ensures ok { (hosting : Hosting) → IsKeptHostOf hosting host.old → OnOk result (IsSessionOf hosting (R.remaining reader.old)
         (W.contents writer.old) (W.contents writer.new) Clean) }
     ensures err { (hosting : Hosting) → IsKeptHostOf hosting host.old → IfErr result (IsUnserved hosting (R.remaining reader.old)
         (R.remaining reader.new) (W.contents writer.old) (W.contents writer.new)) }
 {
-    let mut keep = Keep::begin(rt, alloc, dir, standing, host, syncs, Reserve::none())?;
+    let mut keep = Keep::begin(
+        rt,
+        alloc,
+        dir,
+        standing,
+        host,
+        syncs,
+        Reserve::none(),
+        watch,
+    )?;
     let served = session(host, alloc, &mut keep.journal, reader, writer);
     let saved = keep.end(alloc, host, &served);
     match served {
@@ -99,8 +110,18 @@ fn run_in_folder<'x, H: Files<File = File> + AllocGlobal + RandomSource, R: Read
         (W.contents writer.old) (W.contents writer.new)) }
 {
     let syncs = hosting.syncs;
-    let (mut host, standing, _gate) = host_in_folder(rt, alloc, dir, hosting)?;
-    keep_session(rt, alloc, dir, standing, &mut host, reader, writer, syncs)
+    let (mut host, standing, guards) = host_in_folder(rt, alloc, dir, hosting)?;
+    keep_session(
+        rt,
+        alloc,
+        dir,
+        standing,
+        &mut host,
+        reader,
+        writer,
+        syncs,
+        guards.watch,
+    )
 }
 
 /// Serves one session of the host with these tenants added. If a folder keeps the host, what was served is

@@ -7,13 +7,14 @@ use crate::at_once::{serve_at_once, serve_kept_at_once};
 use crate::fault::Fault;
 use crate::hosts::{host_in_folder, host_in_memory};
 use crate::keep::Keep;
+use crate::objects::Guards;
 use crate::one_after_another::{serve_connections, serve_kept_connections};
 use crate::reserving::reserved;
 use crate::socket::{Listening, listen, show};
 use fork_command::Hosting;
 use fork_host::Host;
 use git_name::Name;
-use loose_store::{Gate, LooseFiles};
+use loose_store::LooseFiles;
 use std::alloc::Global;
 use std::fs;
 use std::fs::{File, Files};
@@ -132,13 +133,14 @@ fn keep_connections<'x, H: Files<File = File> + Net + AllocGlobal + Clock + Epri
     connections: u32,
     at_once: Option<u32>,
     syncs: bool,
-    gate: Gate,
+    guards: Guards,
 ) -> Result<(), Fault>
     ensures ok { (hosting : Hosting) → IsKeptHostOf hosting host.old → OnOk result (IsListened hosting at_once connections) }
     ensures err { (hosting : Hosting) → IsKeptHostOf hosting host.old → IfErr result (IsUnlistened hosting at_once connections) }
 {
+    let Guards { gate, watch } = guards;
     let reserve = reserved(rt, alloc, dir, gate);
-    let mut keep = Keep::begin(rt, alloc, dir, standing, host, syncs, reserve)?;
+    let mut keep = Keep::begin(rt, alloc, dir, standing, host, syncs, reserve, watch)?;
     keep.look();
     show(rt, alloc, socket)?;
     let served = serve_kept_at(
@@ -171,7 +173,7 @@ fn serve_kept_host<'x, H: Files<File = File> + Net + AllocGlobal + Clock + Eprin
     connections: u32,
     at_once: Option<u32>,
     syncs: bool,
-    gate: Gate,
+    guards: Guards,
 ) -> Result<(), Fault>
     ensures ok { (hosting : Hosting) → IsKeptHostOf hosting host.old → OnOk result (IsListened hosting at_once connections) }
     ensures err { (hosting : Hosting) → IsKeptHostOf hosting host.old → IfErr result (IsUnlistened hosting at_once connections) }
@@ -188,7 +190,7 @@ fn serve_kept_host<'x, H: Files<File = File> + Net + AllocGlobal + Clock + Eprin
         connections,
         at_once,
         syncs,
-        gate,
+        guards,
     )
 }
 
@@ -223,7 +225,7 @@ fn serve_in_folder<'x, H: Files<File = File> + Net + AllocGlobal + RandomSource 
     ensures err { IfErr result (IsUnlistened hosting.entry at_once connections) }
 {
     let syncs = hosting.syncs;
-    let (mut host, standing, gate) = host_in_folder(rt, alloc, dir, hosting)?;
+    let (mut host, standing, guards) = host_in_folder(rt, alloc, dir, hosting)?;
     serve_kept_host(
         rt,
         alloc,
@@ -234,7 +236,7 @@ fn serve_in_folder<'x, H: Files<File = File> + Net + AllocGlobal + RandomSource 
         connections,
         at_once,
         syncs,
-        gate,
+        guards,
     )
 }
 

@@ -9,7 +9,7 @@ ghost use Rattle.fork_wire.specs.Kept.{SyncedIf};
 ghost use Rattle.fork_wire.specs.Sessions.{IsAnswered};
 
 use crate::journal::{Journal, NotKept};
-use crate::kept::may_change;
+use crate::kept::{may_change, visited_by};
 use crate::session::answer;
 use fork_connection::{Answering, Lost, Party, round};
 use fork_frame::Frame;
@@ -52,7 +52,8 @@ impl<S: LooseFiles, J: Journal> Answering for Keeping<'_, S, J> {
             return Ok(reply);
         }
         self.is_synced = false;
-        let Ok(()) = self.journal.keep(frame) else {
+        let visited = visited_by(self.host, frame);
+        let Ok(()) = self.journal.keep(frame, visited) else {
             return Err(Lost);
         };
         Ok(reply)

@@ -2,7 +2,6 @@ ghost use Rattle.std.specs.Prelude.{◌≡◌, ℕ, Bool, true, false, List, Opt
 ghost use Rattle.std.specs.Io.KnownBytes.{Appends, Keeps};
 ghost use Rattle.fork_frame.specs.Frame.{frame_bytes};
 
-use crate::kept::visits_all;
 use chained_log::SyncData;
 use fork_frame::{Frame, write_frame};
 use fork_request::MAX_PAYLOAD;
@@ -28,8 +27,8 @@ pub trait Journal {
     /// Whether keeping or syncing failed, so that the last frames may be incomplete.
     ghost is_cut: { Self → Bool };
 
-    /// Appends a frame. A journal that was cut keeps nothing more.
-    fn keep(&mut self, frame: &Frame) -> Result<(), NotKept>
+    /// Appends a frame, which visits so many objects when it is repeated. A journal that was cut keeps nothing more.
+    fn keep(&mut self, frame: &Frame, visited: u64) -> Result<(), NotKept>
         ensures ok { OnOk result (Appends (kept self.old) (kept self.new) (frame_bytes frame.now)) }
         ensures cause { IfErr result (λ _. can_fail) }
         ensures open { OnOk result (is_cut self.old ≡ false) }
@@ -61,7 +60,7 @@ impl Journal for NoJournal {
 
     ghost is_cut = { λ _. false };
 
-    fn keep(&mut self, _frame: &Frame) -> Result<(), NotKept> {
+    fn keep(&mut self, _frame: &Frame, _visited: u64) -> Result<(), NotKept> {
         Ok(())
     }
 
@@ -79,7 +78,7 @@ pub struct Written<W> {
     bytes: u64,
     // How many frames were kept.
     frames: u64,
-    // How many of the frames visit all objects of a tenant when they are repeated.
+    // How many objects the frames visit when they are repeated.
     visits: u64,
     is_cut: bool,
     // Whether `sync` syncs the writer.
@@ -124,8 +123,8 @@ impl<W> Written<W> {
         self.frames
     }
 
-    /// How many of the frames that were kept may visit all objects of a tenant when they are repeated. Such a
-    /// frame is short but takes long to repeat.
+    /// How many objects the frames that were kept visit when they are repeated, up to 2^64 - 1. A short frame may
+    /// take long to repeat.
     pub fn visits(&self) -> u64
         ensures { result ≡ self.now.visits }
     {
@@ -144,7 +143,7 @@ impl<W: SyncData> Journal for Written<W> {
 
     ghost is_cut = { λ journal. journal.is_cut };
 
-    fn keep(&mut self, frame: &Frame) -> Result<(), NotKept> {
+    fn keep(&mut self, frame: &Frame, visited: u64) -> Result<(), NotKept> {
         if self.is_cut {
             return Err(NotKept);
         }
@@ -159,9 +158,7 @@ impl<W: SyncData> Journal for Written<W> {
         };
         self.bytes = self.bytes.saturating_add(self.frame.len() as u64);
         self.frames = self.frames.saturating_add(1);
-        if visits_all(frame.payload.as_bytes()) {
-            self.visits = self.visits.saturating_add(1);
-        }
+        self.visits = self.visits.saturating_add(visited);
         Ok(())
     }
 

@@ -6,7 +6,9 @@ ghost use Rattle.fork_wire.specs.Kept.{is_part_end as may_end, is_kept, kept_one
 
 use crate::journal::Journal;
 use fork_frame::{Asker, Frame};
+use fork_host::Host;
 use fork_request::{Reply, Request};
+use loose_store::LooseFiles;
 
 // Whether the request only asks.
 fn only_asks(payload: &[u8]) -> bool
@@ -50,11 +52,20 @@ fn ends_upload(payload: &[u8]) -> bool
     }
 }
 
-/// Whether the request may visit all objects of its tenant, or of the tenant that made an offer.
-pub(crate) fn visits_all(payload: &[u8]) -> bool {
+// Whether the request may visit all objects of its tenant, or all that an offer reaches.
+fn visits_all(payload: &[u8]) -> bool {
     match Request::read(payload) {
         Request::Prune | Request::ForkOffer(_, _, _) => true,
         _ => false,
+    }
+}
+
+/// How many objects a frame that was just answered visits when it is repeated, beside those that a `prune` removed: at
+/// most those that its tenant sees now.
+pub(crate) fn visited_by<S: LooseFiles>(host: &Host<S>, frame: &Frame) -> u64 {
+    match &frame.asker {
+        Asker::Tenant(name) if visits_all(frame.payload.as_bytes()) => host.seen_count(name) as u64,
+        _ => 0,
     }
 }
 
@@ -80,9 +91,14 @@ pub(crate) fn may_change(frame: &Frame, reply: &Reply) -> bool
     }
 }
 
-/// Keeps and syncs a frame with this reply, if it may have changed the host. Returns `false` if keeping or
+/// Keeps and syncs a frame that a host has given this reply, if it may have changed the host. Returns `false` if keeping or
 /// syncing failed.
-pub(crate) fn keep_synced<J: Journal>(journal: &mut J, frame: &Frame, reply: &Reply) -> bool
+pub(crate) fn keep_synced<S: LooseFiles, J: Journal>(
+    host: &Host<S>,
+    journal: &mut J,
+    frame: &Frame,
+    reply: &Reply,
+) -> bool
     ensures kept { IsTrue result → Appends (J.kept journal.old) (J.kept journal.new) (kept_one frame.now reply.now) }
     ensures synced { IsTrue result → Keeps (J.synced journal.old) (J.kept journal.old) → Keeps (J.synced journal.new) (J.kept journal.new) }
     ensures cause { result ≡ false → J.can_fail }
@@ -92,7 +108,8 @@ pub(crate) fn keep_synced<J: Journal>(journal: &mut J, frame: &Frame, reply: &Re
     if !may_change(frame, reply) {
         return true;
     }
-    let Ok(()) = journal.keep(frame) else {
+    let visited = visited_by(host, frame);
+    let Ok(()) = journal.keep(frame, visited) else {
         return false;
     };
     let Ok(()) = journal.sync() else {

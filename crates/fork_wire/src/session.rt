@@ -117,7 +117,7 @@ fn answer_kept<S: LooseFiles, J: Journal>(
     ensures cut { result.1 ≡ false → J.is_cut journal.new ≡ true }
 {
     let reply = answer(host, alloc, &frame);
-    let kept = keep_synced(journal, &frame, &reply);
+    let kept = keep_synced(host, journal, &frame, &reply);
     (reply, kept)
 }
 

@@ -1,13 +1,5 @@
-pub mod Calls
-pub mod Contents
 pub mod Failures
 pub mod Files
 pub mod Fuse
-pub mod Journal
-pub mod Lasting
-pub mod Listing
 pub mod MemoryFile
-pub mod Place
 pub mod Stored
-pub mod Swept
-pub mod Synced

@@ -1,8 +1,7 @@
 -- Generations, as numbers get them, as more is learned and as numbers are renewed.
-use Rattle.std.proofs.Common.{◌≡◌, ◌≢◌, ◌<◌, ◌≤◌, ◌+◌, ◌⊎◌, ℕ, true, List, [], ◌∷◌, Option, Some, None, All, Contains, IfNone, IfSome, SomeIff, get_or, is_some, length, set, unwrap_or, inl, inr, refl, sym, ap, subst, ◌∙◌, arith}
+use Rattle.std.proofs.Common.{◌≡◌, ◌≢◌, ◌<◌, ◌≤◌, ◌+◌, ◌⊎◌, ℕ, true, List, [], ◌∷◌, Option, Some, None, All, Contains, IfNone, IfSome, SomeIff, get_or, is_some, nat_eq, if◌then◌else◌, unwrap_or, inl, inr, refl, sym, ap, subst, ◌∙◌, arith}
 use Rattle.std.specs.Option.{option_map}
-use Rattle.std.proofs.lemmas.Bool.{cases_eq}
-use Rattle.std.proofs.lemmas.List.{get_or-set_other, get_or-set_same}
+use Rattle.std.proofs.lemmas.Bool.{cases_eq, cond-false, cond-true}
 use Rattle.std.proofs.lemmas.List.Elements.{All-contains, All-weaker}
 use Rattle.number_links.specs.Facts.{Facts, Learned, goes_on, learned, parents_from, told}
 use Rattle.number_links.specs.Generations.{AreGenerations, IsMarked, generation}
@@ -141,10 +140,10 @@ pub generations_marked : (facts : Facts) (old new : List ℕ) → IsMarked old n
 generations_marked facts old new marks = same_high facts old new (high_before old new marks) (high_still old new marks) (mark_still old new marks)
 
 -- one number gets a generation
-pub generations_raised : (facts : Facts) (old marked room new : List ℕ) (n next : ℕ) (to : List ℕ) → AreGenerations facts old → generation old n ≤ 1 → known facts.links n ≡ Some to
+pub generations_raised : (facts : Facts) (old marked new : List ℕ) (n next : ℕ) (to : List ℕ) → AreGenerations facts old → generation old n ≤ 1 → known facts.links n ≡ Some to
     → 1 < next → All (λ p. (1 < generation old p) × (generation old p < next)) (goes_on Parents facts n) → IsMarked old marked → All (λ m. 0 < generation marked m) to
-    → ((i : ℕ) → get_or room i 0 ≡ get_or marked i 0) → n < length room → new ≡ set room n next → AreGenerations facts new
-generations_raised facts old marked room new n next to are low is_known least parents marks all_marked same_room long written = record {
+    → ((q : ℕ) → generation new q ≡ (if nat_eq q n then next else generation marked q)) → AreGenerations facts new
+generations_raised facts old marked new n next to are low is_known least parents marks all_marked written = record {
   known = λ q high. elim (cases_eq q n) [
     | inl same ↦ ap (λ k. is_some (known facts.links k)) same ∙ ap is_some is_known
     | inr apart ↦ (let was = before q apart high in are.known q (omega arith))
@@ -164,10 +163,10 @@ generations_raised facts old marked room new n next to are low is_known least pa
 }
   where
     here : generation new n ≡ next
-    here = ap (λ gs. generation gs n) written ∙ get_or-set_same room n next 0 long
+    here = written n ∙ cond-true (nat_eq n n) next (generation marked n) (search arith)
 
     other : (q : ℕ) → q ≢ n → generation new q ≡ generation marked q
-    other q apart = ap (λ gs. generation gs q) written ∙ get_or-set_other room n q next 0 apart ∙ same_room q
+    other q apart = written q ∙ cond-false (nat_eq q n) next (generation marked q) (search arith)
 
     before : (q : ℕ) → q ≢ n → 1 < generation new q → generation new q ≡ generation old q
     before q apart high = (let now = other q apart in now ∙ high_before old marked marks q (omega arith))

@@ -10,7 +10,8 @@ use Rattle.number_links.specs.Kept.{IsAllLedTo, IsKept}
 use Rattle.number_links.specs.Known.{Known, known, linked}
 use Rattle.number_links.specs.declared.kept.Kept.{Kept}
 use Rattle.number_links.specs.Reach.{IsReached, Root, Next}
-use Rattle.number_links.proofs.SeeingLemmas.{sole_there}
+use Rattle.number_links.proofs.SeeingLemmas.{none_there}
+use Rattle.number_links.proofs.WalkLemmas.{Walks}
 
 -- whatever is allowed, all that is reached is in the set
 pub all_led : (links : Known) (roots : List ℕ) (among allowed : ℕ → Bool) → IsAllLedTo links roots among → (n : ℕ) → IsReached (linked links) allowed roots n → among n ≡ true
@@ -94,18 +95,38 @@ all_without links n ks now is are =
     let passes = filter_passes test ks in
     All-same (λ one. IsKept links one × (has one.reached n ≡ false)) now (filter test ks) is (λ k d within. (kept k d within, not-true (has (get_or (filter test ks) k d).reached n) (passes k d within)))
 
--- what a walk found, if it is settled
-pub kept_made : (links now : Known) (root : ℕ) (among allowed : ℕ → Bool) → among root ≡ true → ((n : ℕ) → among n ≡ true → IsReached (linked links) allowed (root ∷ []) n)
-    → ((q : ℕ) → is_some (known links q) ≡ true → known now q ≡ known links q)
-    → ((q : ℕ) (ms : List ℕ) → known now q ≡ Some ms → (known links q ≡ Some ms) ⊎ ((among q ≡ true) × (ms ≡ []) × (known links q ≡ None)))
-    → ((n : ℕ) → among n ≡ true → is_some (known now n) ≡ true) → ((n m : ℕ) → among n ≡ true → Contains (linked now n) m → among m ≡ true) → IsAllLedTo now (root ∷ []) among
-kept_made links now root among allowed itself reached stays only are_known closed = record {
-  rooted = λ n is. subst (λ m. among m ≡ true) (sole_there root n is) itself;
-  closed = closed;
-  only = λ n there. reached_anyhow (linked links) (linked now) allowed (root ∷ []) (linked_as_before links now stays (λ q ms is. weaker q ms (only q ms is))) n (reached n there);
-  known = are_known;
+-- what a walk learned so far is of numbers that rest and are allowed
+abbrev pub Learns : Known → Known → (ℕ → Bool) → (ℕ → Bool) → Type 0
+Learns links now allowed rests = (q : ℕ) (ms : List ℕ) → known now q ≡ Some ms → (known links q ≡ Some ms) ⊎ ((ms ≡ []) × (allowed q ≡ true) × (rests q ≡ true))
+
+pub learns_more : (links mid now : Known) (allowed rests : ℕ → Bool) (n : ℕ) → allowed n ≡ true → Learns links mid allowed rests
+    → ((q : ℕ) (ms : List ℕ) → known now q ≡ Some ms → (known mid q ≡ Some ms) ⊎ ((ms ≡ []) × (q ≡ n) × (rests q ≡ true))) → Learns links now allowed rests
+learns_more links mid now allowed rests n there before step q ms is = elim (step q ms is) [
+  | inl long ↦ before q ms long
+  | inr learned ↦ inr (learned.0, subst (λ m. allowed m ≡ true) (sym learned.1) there, learned.2)
+]
+
+pub learns_nowhere : (links now : Known) (allowed rests : ℕ → Bool) → Learns links now allowed rests → (q : ℕ) (ms : List ℕ) → known now q ≡ Some ms → (known links q ≡ Some ms) ⊎ (ms ≡ [])
+learns_nowhere links now allowed rests only q ms is = elim (only q ms is) [
+  | inl before ↦ inl before
+  | inr learned ↦ inr learned.0
+]
+
+-- what a walk found that learned only of numbers that lead nowhere
+pub kept_gathered : (links now : Known) (root : ℕ) (seen : ℕ → Bool) (waits : List ℕ) → waits ≡ [] → ((q : ℕ) → is_some (known links q) ≡ true → known now q ≡ known links q)
+    → ((q : ℕ) (ms : List ℕ) → known now q ≡ Some ms → (known links q ≡ Some ms) ⊎ (ms ≡ [])) → Walks (λ n. is_some (known now n) ≡ true) (linked links) (λ _. true) (root ∷ []) seen waits
+    → IsAllLedTo now (root ∷ []) seen
+kept_gathered links now root seen waits none stays only walks = record {
+  rooted = λ n is. walks.begun n is refl;
+  closed = λ from n there leads. (done from (walks.closed from there)).1 n (subst (λ ms. Contains ms n) (same from) leads) refl;
+  only = λ n there. reached_anyhow (linked links) (linked now) (λ _. true) (root ∷ []) same n (walks.reached n there);
+  known = λ n there. (done n (walks.closed n there)).0;
 }
   where
-    weaker : (q : ℕ) (ms : List ℕ) → (known links q ≡ Some ms) ⊎ ((among q ≡ true) × (ms ≡ []) × (known links q ≡ None)) → (known links q ≡ Some ms) ⊎ (ms ≡ [])
-    weaker q ms (inl before) = inl before
-    weaker q ms (inr learned) = inr learned.1
+    same : (q : ℕ) → linked now q ≡ linked links q
+    same = linked_as_before links now stays only
+
+    done : (from : ℕ) → Contains waits from ⊎ ((is_some (known now from) ≡ true) × ((n : ℕ) → Contains (linked links from) n → true ≡ true → seen n ≡ true))
+        → (is_some (known now from) ≡ true) × ((n : ℕ) → Contains (linked links from) n → true ≡ true → seen n ≡ true)
+    done from (inl waiting) = absurd (none_there from (subst (λ w. Contains w from) none waiting))
+    done from (inr is) = is

@@ -4,6 +4,7 @@ pub mod CountLemmas
 pub mod DescentLemmas
 pub mod FactLemmas
 pub mod GenerationLemmas
+pub mod GenerationPageLemmas
 pub mod HistoryLemmas
 pub mod KeptLemmas
 pub mod KeyLemmas

@@ -90,9 +90,13 @@ told_noted renewed now pool begin same =
     let learned = get_or pool begin 0 in
     ap (λ b. cond b (Some numbers) None) (all_alike (λ n. nat_le (get_or now n 0) learned) (λ n. nat_le (get_or renewed n 0) learned) numbers (λ n. ap (λ t. nat_le t learned) (same n)))))
 
+-- no number was renewed after now
+pub still_by_now : (renewed : List ℕ) (clock : ℕ) (numbers : List ℕ) → ((n : ℕ) → get_or renewed n 0 ≤ clock) → are_still renewed clock numbers ≡ true
+still_by_now renewed clock numbers by_now = all_from_each (λ n. nat_le (get_or renewed n 0) clock) numbers (λ n among. le-leb (get_or renewed n 0) clock (by_now n))
+
 -- a record that is written now tells its numbers
 told_new : (renewed : List ℕ) (clock : ℕ) (to : List ℕ) → ((n : ℕ) → get_or renewed n 0 ≤ clock) → told_at renewed clock to ≡ Some to
-told_new renewed clock to by_now = cond-true (are_still renewed clock to) (Some to) None (all_from_each (λ n. nat_le (get_or renewed n 0) clock) to (λ n among. le-leb (get_or renewed n 0) clock (by_now n)))
+told_new renewed clock to by_now = cond-true (are_still renewed clock to) (Some to) None (still_by_now renewed clock to by_now)
 
 -- where a record stands last, these are its words
 last_numbers : (old : List ℕ) (clock : ℕ) (to : List ℕ) → numbers_at (old ++ clock ∷ length to ∷ to) (length old) ≡ to

@@ -88,7 +88,8 @@ sees_known bound allowed first seen waits known = record {
   less = omega arith;
 }
 
-either_seen : (first n : ℕ) (old now : Bool) → now ≡ nat_eq n first || old → now ≡ true → (first ≡ n) ⊎ (old ≡ true)
+-- what is seen now is the new number, or was seen before
+pub either_seen : (first n : ℕ) (old now : Bool) → now ≡ nat_eq n first || old → now ≡ true → (first ≡ n) ⊎ (old ≡ true)
 either_seen first n old now is seen = by (nat_eq n first) refl
   where
     by : (b : Bool) → nat_eq n first ≡ b → (first ≡ n) ⊎ (old ≡ true)

@@ -36,6 +36,19 @@ walks_begin bound clear next allowed roots seen waits now_seen now_waits none_se
     none : (n : ℕ) → seen n ≡ true → ⊥
     none n is = (let no : true ≡ false = sym is ∙ none_seen n in cc)
 
+-- what was found clear is clear by another test
+pub walks_clear : (clear now_clear : ℕ → Type 0) (next : ℕ → List ℕ) (allowed : ℕ → Bool) (roots : List ℕ) (seen : ℕ → Bool) (waits : List ℕ)
+    → ((n : ℕ) → clear n → now_clear n) → Walks clear next allowed roots seen waits → Walks now_clear next allowed roots seen waits
+walks_clear clear now_clear next allowed roots seen waits more walks = record {
+  begun = walks.begun;
+  noted = walks.noted;
+  reached = walks.reached;
+  closed = λ from is. elim (walks.closed from is) [
+    | inl waiting ↦ inl waiting
+    | inr done ↦ inr (more from done.0, done.1)
+  ];
+}
+
 -- the last of those that wait was followed
 pub walks_on : (bound : ℕ) (clear : ℕ → Type 0) (next : ℕ → List ℕ) (allowed : ℕ → Bool) (roots : List ℕ) (seen : ℕ → Bool) (waits rest : List ℕ) (last : ℕ) (now_seen : ℕ → Bool) (now_waits : List ℕ)
     → waits ≡ rest ++ last ∷ [] → clear last → Walks clear next allowed roots seen waits → Sees bound allowed (next last) seen rest now_seen now_waits → Walks clear next allowed roots now_seen now_waits
@@ -80,9 +93,12 @@ pub none_waits : (waits : List ℕ) (len : ℕ) → len ≡ length waits → len
 none_waits [] len is none = refl
 none_waits (n ∷ ns) len is none = absurd (omega arith)
 
--- the last of those that wait is reached
+-- the last of those that wait is seen, and reached
+pub last_seen : (clear : ℕ → Type 0) (next : ℕ → List ℕ) (allowed : ℕ → Bool) (roots : List ℕ) (seen : ℕ → Bool) (waits rest : List ℕ) (last : ℕ) → waits ≡ rest ++ last ∷ [] → Walks clear next allowed roots seen waits → seen last ≡ true
+last_seen clear next allowed roots seen waits rest last popped walks = walks.noted last (subst (λ w. Contains w last) (sym popped) (Contains-append_right rest (last ∷ []) last (sole last)))
+
 pub last_reached : (clear : ℕ → Type 0) (next : ℕ → List ℕ) (allowed : ℕ → Bool) (roots : List ℕ) (seen : ℕ → Bool) (waits rest : List ℕ) (last : ℕ) → waits ≡ rest ++ last ∷ [] → Walks clear next allowed roots seen waits → IsReached next allowed roots last
-last_reached clear next allowed roots seen waits rest last popped walks = walks.reached last (walks.noted last (subst (λ w. Contains w last) (sym popped) (Contains-append_right rest (last ∷ []) last (sole last))))
+last_reached clear next allowed roots seen waits rest last popped walks = walks.reached last (last_seen clear next allowed roots seen waits rest last popped walks)
 
 -- ---- a set is taken whole
 -- what is reached from a number that is reached is reached

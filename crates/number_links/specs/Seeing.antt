@@ -10,6 +10,10 @@ count_below (suc n) test = count_below n test + cond (test n) 1 0
 abbrev pub unseen : ℕ → (ℕ → Bool) → (ℕ → Bool) → ℕ
 unseen bound allowed seen = count_below bound (λ n. allowed n && not (seen n))
 
+-- all that pass one test pass another
+abbrev pub AreIn : (ℕ → Bool) → (ℕ → Bool) → Type 0
+AreIn one other = (n : ℕ) → one n ≡ true → other n ≡ true
+
 -- numbers were visited: those that are allowed are seen now, and those of them that are new wait
 pub record Sees (bound : ℕ) (allowed : ℕ → Bool) (numbers : List ℕ) (seen : ℕ → Bool) (waits : List ℕ) (now_seen : ℕ → Bool) (now_waits : List ℕ) : Type 0 where
   pub kept : (n : ℕ) → seen n ≡ true → now_seen n ≡ true

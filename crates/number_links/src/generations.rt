@@ -1,26 +1,28 @@
-// A generation number (topological level, as in Git's commit-graph) for each number. Numbers after the end have 0.
-ghost use Rattle.std.specs.Prelude.{◌≡◌, ◌<◌, ◌≤◌, ℕ, [], OnOk, get_or, set, length};
+// A generation number (topological level, as in Git's commit-graph) for each number, in pages. A page without
+// generations takes no memory but its place.
+ghost use Rattle.std.specs.Prelude.{◌≡◌, ◌<◌, ◌≤◌, ℕ, [], OnOk, OnErr, get_or, length, nat_eq, if◌then◌else◌};
 ghost use Rattle.number_links.specs.Facts.{Facts};
 ghost use Rattle.number_links.specs.Generations.{AreGenerations, generation};
 
-use crate::lists::{get, lengthen, put};
+use crate::generation_page::GenerationPage;
 use std::alloc::{AllocError, Global};
 use std::marker::Model;
 
 // For each number, its generation. A marked number without a generation has 1, and any other has 0.
 #[derive(Drop)]
 pub(crate) struct Generations {
-    words: Vec<u32>,
+    pages: Vec<GenerationPage>,
 }
 
 impl Model for Generations {
     ghost use Rattle.std.specs.Prelude.{List, ℕ, ◌≤◌, length};
+    ghost use Rattle.number_links.specs.Generations.{words_of};
 
     ghost Value = { List ℕ };
 
-    ghost view = { λ a. a.words.items };
+    ghost view = { λ a. words_of a.pages.items };
 
-    ghost invariant = { λ a. length a.words.items ≤ 4294967296 };
+    ghost invariant = { λ a. length a.pages.items ≤ 1048576 };
 }
 
 impl Generations {
@@ -29,7 +31,7 @@ impl Generations {
         ensures { result ≡ [] }
     {
         Generations {
-            words: Vec::new(alloc),
+            pages: Vec::new(alloc),
         }
     }
 
@@ -37,7 +39,7 @@ impl Generations {
     pub(crate) fn invariant(&self)
         ensures { length self.now ≤ 4294967296 }
     {
-        let _words = &self.words;
+        let _pages = &self.pages;
     }
 
     // The generation of a number.
@@ -45,22 +47,21 @@ impl Generations {
         ensures value { result ≡ get_or self.now n 0 }
         ensures few { length self.now ≤ 4294967296 }
     {
-        get(&self.words, n, 0)
+        let at = n as usize / 4096;
+        if at >= self.pages.len() {
+            return 0;
+        }
+        self.pages[at].at(n % 4096)
     }
 
-    // Makes the list long enough for a number. No generation changes.
-    pub(crate) fn reserve(&mut self, n: u32) -> Result<(), AllocError>
-        ensures same { (i : ℕ) → get_or self.new i 0 ≡ get_or self.old i 0 }
-        ensures ok { OnOk result (n < length self.new) }
+    // Writes the generation of a number.
+    pub(crate) fn write(&mut self, n: u32, word: u32) -> Result<(), AllocError>
+        ensures ok { OnOk result ((q : ℕ) → generation self.new q ≡ (if nat_eq q n then word else generation self.old q)) }
+        ensures err { OnErr result ((q : ℕ) → generation self.new q ≡ generation self.old q) }
     {
-        lengthen(&mut self.words, n, 0)
-    }
-
-    // Writes the generation of a number for which there is room.
-    pub(crate) fn put(&mut self, n: u32, generation: u32)
-        ensures { self.new ≡ set self.old n generation }
-    {
-        put(&mut self.words, n, generation);
+        let at = n as usize / 4096;
+        lengthen(&mut self.pages, at)?;
+        self.pages[at].write(n % 4096, word)
     }
 
     // Clears all generations if this number has one or is marked.
@@ -78,6 +79,20 @@ impl Generations {
     pub(crate) fn clear(&mut self)
         ensures { self.new ≡ [] }
     {
-        self.words.clear();
+        self.pages.clear();
     }
+}
+
+// Makes the list of pages long enough for this page.
+fn lengthen(pages: &mut Vec<GenerationPage>, at: usize) -> Result<(), AllocError>
+    requires { at < 1048576 }
+    ensures slots { (i : ℕ) → get_or pages.new.items i [] ≡ get_or pages.old.items i [] }
+    ensures ok { OnOk result (at < length pages.new.items) }
+    ensures few { length pages.old.items ≤ 1048576 → length pages.new.items ≤ 1048576 }
+{
+    let alloc = *pages.allocator();
+    'pages: while pages.len() <= at {
+        pages.push(GenerationPage::new(alloc))?;
+    }
+    Ok(())
 }

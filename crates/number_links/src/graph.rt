@@ -102,8 +102,8 @@ impl Graph {
     }
 
     /// For each of the first 8 roots, keeps the set of all numbers reachable from it. A set is kept only if it took
-    /// many steps to find, all of it is allowed, and each number in it rests or has known links. A resting number in
-    /// it is then known to have no links.
+    /// many steps to find, all of it is allowed, and each number in it rests or has known links. A resting number on
+    /// the way is then known to have no links.
     pub fn keep<R: Resting>(
         &mut self,
         alloc: Global,
@@ -250,8 +250,7 @@ fn between<R: Resting>(
     ensures known { IfOk result (λ r. IfSome r (λ found. (n : ℕ) → IsReached (goes_on along_links (record { links = links.now; times = times.now })) (has allowed.now) wanted.now n ⊎ IsReached (goes_on along_links (record { links = links.now; times = times.now })) (has allowed.now) excluded.now n → RestsOrIsKnown links.now (R.rests resting.now) n)) }
     ensures unknown { IfOk result (λ r. IfNone r (ReachesUnknown (goes_on along_links (record { links = links.now; times = times.now })) links.now (R.rests resting.now) (has allowed.now) wanted.now ⊎ ReachesUnknown (goes_on along_links (record { links = links.now; times = times.now })) links.now (R.rests resting.now) (has allowed.now) excluded.now)) }
 {
-    let mut count = 0;
-    let Some(beyond) = reach_all(alloc, links, kept, allowed, resting, excluded, &mut count)? else {
+    let Some(beyond) = reach_all(alloc, links, kept, allowed, resting, excluded)? else {
         return Ok(None);
     };
     walk(

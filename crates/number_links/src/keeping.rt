@@ -4,12 +4,11 @@ ghost use Rattle.number_links.specs.Numbers.{has};
 ghost use Rattle.number_links.specs.Kept.{IsKept};
 ghost use Rattle.number_links.specs.Known.{known};
 
+use crate::gathering::gather;
 use crate::kept::{Kept, put};
 use crate::links::Links;
 use crate::number_set::NumberSet;
 use crate::resting::Resting;
-use crate::settling::settle;
-use crate::taking::reach_all;
 use std::alloc::Global;
 
 // A set that takes fewer steps to find is not kept.
@@ -33,24 +32,18 @@ fn keep_one<R: Resting>(
     ensures only { (q : ℕ) (ms : List ℕ) → known links.new q ≡ Some ms → (known links.old q ≡ Some ms) ⊎ ((ms ≡ []) × (has allowed.now q ≡ true) × (R.rests resting.now q ≡ true)) }
 {
     let mut count = 0;
-    let Ok(Some(reached)) = reach_all(
+    let Ok(Some(reached)) = gather(
         alloc,
         links,
         kept.as_slice(),
         allowed,
         resting,
-        &[root],
+        root,
         &mut count,
     ) else {
         return;
     };
     if count < FEW {
-        return;
-    }
-    if !reached.contains(root) {
-        return;
-    }
-    if !settle(links, &reached) {
         return;
     }
     put(kept, Kept { root, reached });

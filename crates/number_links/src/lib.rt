@@ -5,6 +5,8 @@
 
 mod along;
 mod climbing;
+mod gathering;
+mod generation_page;
 mod generations;
 mod graph;
 mod ground;
@@ -22,7 +24,6 @@ mod packing;
 mod page;
 mod records;
 mod resting;
-mod settling;
 mod slot;
 mod taking;
 mod times;

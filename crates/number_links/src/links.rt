@@ -61,7 +61,7 @@ impl Links {
         ensures none { IfNone result (known self.now n ≡ None) }
     {
         let begin = get(&self.begins, n, UNKNOWN);
-        read(&self.renewed, &self.pool, begin)
+        read(self.clock, &self.renewed, &self.pool, begin)
     }
 
     /// Learns the links of a number, replacing those known before. An `Err` means that memory ran out, or that the

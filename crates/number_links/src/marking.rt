@@ -35,8 +35,7 @@ fn mark(generations: &mut Generations, n: u32) -> Result<(), AllocError>
     if generations.at(n) > 0 {
         return Ok(());
     }
-    generations.reserve(n)?;
-    generations.put(n, 1);
+    generations.write(n, 1)?;
     Ok(())
 }
 
@@ -65,9 +64,8 @@ pub(crate) fn raise(generations: &mut Generations, n: u32, to: &[u32], parents: 
     let Ok(()) = mark_all(generations, to) else {
         return false;
     };
-    let Ok(()) = generations.reserve(n) else {
+    let Ok(()) = generations.write(n, next) else {
         return false;
     };
-    generations.put(n, next);
     true
 }

@@ -71,12 +71,15 @@ impl NumberSet {
         Ok(())
     }
 
-    /// Adds a number. It allocates nothing.
+    /// Adds a number, unless it has no room. It allocates nothing.
     pub fn insert(&mut self, n: u32)
-        requires { has_room self.old n ≡ true }
-        ensures has { (q : ℕ) → has self.new q ≡ (nat_eq q n || has self.old q) }
+        ensures has { has_room self.old n ≡ true → (q : ℕ) → has self.new q ≡ (nat_eq q n || has self.old q) }
         ensures room { (q : ℕ) → has_room self.new q ≡ has_room self.old q }
+        ensures kept { has_room self.old n ≡ false → self.new ≡ self.old }
     {
+        if !self.has_page(n as usize / 4096) {
+            return;
+        }
         slot::insert(&mut self.pages[n as usize / 4096], n % 4096);
     }
 
@@ -92,12 +95,15 @@ impl NumberSet {
         slot::remove(&mut self.pages[at], n % 4096);
     }
 
-    /// Adds each number of another set. It allocates nothing.
+    /// Adds each number of another set, if there is room wherever the other set has room. It allocates nothing.
     pub fn unite(&mut self, other: &NumberSet)
-        requires { HasRoomOf other.now self.old }
-        ensures has { (q : ℕ) → has self.new q ≡ (has self.old q || has other.now q) }
+        ensures has { HasRoomOf other.now self.old → (q : ℕ) → has self.new q ≡ (has self.old q || has other.now q) }
         ensures room { (q : ℕ) → has_room self.new q ≡ has_room self.old q }
+        ensures kept { (n : ℕ) → has_room other.now n ≡ true → has_room self.old n ≡ false → self.new ≡ self.old }
     {
+        if !self.has_pages_of(other) {
+            return;
+        }
         for at in 0..self.pages.len().min(other.pages.len()) {
             slot::unite(&mut self.pages[at], &other.pages[at]);
         }
@@ -139,6 +145,32 @@ impl NumberSet {
     {
         self.pages.clear();
         self.pages.shrink_to_fit();
+    }
+
+    // Whether there is a page at a place.
+    fn has_page(&self, at: usize) -> bool
+        ensures { result ≡ is_some (get_or self.now at None) }
+    {
+        if at >= self.pages.len() {
+            return false;
+        }
+        self.pages[at].is_some()
+    }
+
+    // Whether there is a page wherever another set has one.
+    fn has_pages_of(&self, other: &NumberSet) -> bool
+        ensures all { result ≡ true → HasRoomOf other.now self.now }
+        ensures lacks { result ≡ false → HasRoomOf other.now self.now → ⊥ }
+    {
+        for at in 0..other.pages.len() {
+            if other.pages[at].is_none() {
+                continue;
+            }
+            if !self.has_page(at) {
+                return false;
+            }
+        }
+        true
     }
 
     /// The smallest number of the set that is at least this one.

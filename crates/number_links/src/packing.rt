@@ -40,7 +40,7 @@ fn copy(
     requires few { length now_pool.old.items ≤ 4294967294 }
     ensures { IfOk result (λ now. IsCopied clock renewed.now pool.now begin now_pool.old.items now_pool.new.items now) }
 {
-    let Some(to) = read(renewed, pool, begin) else {
+    let Some(to) = read(clock, renewed, pool, begin) else {
         return Ok(UNKNOWN);
     };
     write(now_pool, clock, to)

@@ -1,5 +1,5 @@
 // A pool of records. A record has the clock when it was learned, the count of its numbers, and the numbers.
-ghost use Rattle.std.specs.Prelude.{◌≡◌, ◌≢◌, ◌≤◌, ◌+◌, Some, None, IfOk, IfSome, IfNone, OnErr, get_or, length};
+ghost use Rattle.std.specs.Prelude.{◌≡◌, ◌≢◌, ◌≤◌, ◌+◌, ℕ, Some, None, IfOk, IfSome, IfNone, OnErr, get_or, length};
 ghost use Rattle.number_links.specs.Records.{IsWritten, are_still, told};
 
 use crate::lists::get;
@@ -32,8 +32,14 @@ pub(crate) fn write(pool: &mut Vec<u32>, clock: u32, to: &[u32]) -> Result<u32, 
 }
 
 // The numbers of the record at a place, or `None` if one of them was renewed since it was learned.
-pub(crate) fn read<'a>(renewed: &[u32], pool: &'a [u32], begin: u32) -> Option<&'a [u32]>
-    requires { begin ≢ 4294967295 → begin ≢ 4294967294 → begin + 2 + get_or pool.now (begin + 1) 0 ≤ length pool.now }
+pub(crate) fn read<'a>(
+    clock: u32,
+    renewed: &[u32],
+    pool: &'a [u32],
+    begin: u32,
+) -> Option<&'a [u32]>
+    requires by_now { (n : ℕ) → get_or renewed.now n 0 ≤ clock }
+    requires place { begin ≢ 4294967295 → begin ≢ 4294967294 → begin + 2 + get_or pool.now (begin + 1) 0 ≤ length pool.now }
     ensures some { IfSome result (λ to. told renewed.now pool.now begin ≡ Some to.now) }
     ensures none { IfNone result (told renewed.now pool.now begin ≡ None) }
 {
@@ -46,16 +52,20 @@ pub(crate) fn read<'a>(renewed: &[u32], pool: &'a [u32], begin: u32) -> Option<&
     let start = begin as usize;
     let count = pool[start + 1] as usize;
     let to = &pool[start + 2..start + 2 + count];
-    if !is_still(renewed, pool[start], to) {
+    if !is_still(clock, renewed, pool[start], to) {
         return None;
     }
     Some(to)
 }
 
 // Whether none of these numbers was renewed after the clock `learned`.
-fn is_still(renewed: &[u32], learned: u32, numbers: &[u32]) -> bool
+fn is_still(clock: u32, renewed: &[u32], learned: u32, numbers: &[u32]) -> bool
+    requires { (n : ℕ) → get_or renewed.now n 0 ≤ clock }
     ensures { result ≡ are_still renewed.now learned numbers.now }
 {
+    if learned == clock {
+        return true;
+    }
     for n in numbers {
         if get(renewed, *n, 0) > learned {
             return false;

@@ -14,7 +14,7 @@ use crate::walking::next;
 use std::alloc::{AllocError, Global};
 
 // Adds all numbers of another set.
-fn take(seen: &mut NumberSet, set: &NumberSet) -> Result<(), AllocError>
+pub(crate) fn take(seen: &mut NumberSet, set: &NumberSet) -> Result<(), AllocError>
     ensures { OnOk result ((n : ℕ) → has seen.new n ≡ (has seen.old n || has set.now n)) }
 {
     seen.reserve_all(set)?;
@@ -23,7 +23,7 @@ fn take(seen: &mut NumberSet, set: &NumberSet) -> Result<(), AllocError>
 }
 
 // The numbers reachable from the roots through allowed ones, or `None` if one of them neither rests nor has known
-// links. A kept set is taken as a whole. Each other number is followed and counted once.
+// links. A kept set is taken as a whole. Each other number is followed once.
 pub(crate) fn reach_all<R: Resting>(
     alloc: Global,
     links: &Links,
@@ -31,7 +31,6 @@ pub(crate) fn reach_all<R: Resting>(
     allowed: &NumberSet,
     resting: &R,
     roots: &[u32],
-    count: &mut usize,
 ) -> Result<Option<NumberSet>, AllocError>
     requires { All (IsKept links.now) kept.now }
     ensures only { IfOk result (λ r. IfSome r (λ found. (n : ℕ) → has found n ≡ true → IsReached (linked links.now) (has allowed.now) roots.now n)) }
@@ -48,7 +47,6 @@ pub(crate) fn reach_all<R: Resting>(
             take(&mut seen, set)?;
             continue;
         }
-        *count = count.saturating_add(1);
         let Some(to) = next(links, resting, n) else {
             return Ok(None);
         };

@@ -1,12 +1,16 @@
 -- Rows of names that nobody holds, as they come to tell what is to be staged.
-use Rattle.std.proofs.Common.{◌≡◌, inl, inr, ℕ, zero, suc, ◌<◌, Bool, true, false, cond, List, Option, None, Some, is_some, refl, sym, ap, ◌∙◌, arith}
+use Rattle.std.proofs.Common.{◌≡◌, inl, inr, ℕ, zero, suc, ◌<◌, Bool, true, false, cond, List, Option, None, Some, is_some, slice_index_or, refl, sym, ap, ◌∙◌, arith}
 use Rattle.std.specs.Prelude.{Contains}
-use Rattle.git_name.specs.Same.{same_name}
+use Rattle.std.specs.List.{All}
+use Rattle.std.specs.Map.{keys_of}
+use Rattle.git_name.specs.Same.{is_listed, same_name}
+use Rattle.looks.specs.Places.{Places}
+use Rattle.object_table.specs.AllStaged.{AreListed}
 use Rattle.object_table.specs.Clashes.{DescribesUnheld, HasRow, RowClash}
 use Rattle.object_table.specs.declared.entry.Entry.{Entry}
 use Rattle.object_table.specs.declared.row.Row.{Row}
 use Rattle.object_table.specs.Rows.{Rows, row_in}
-use Rattle.object_table.proofs.PlaceLemmas.{one_name}
+use Rattle.object_table.proofs.PlaceLemmas.{listed_lookup, one_name}
 use Rattle.object_table.proofs.RowLemmas.{none_is_some}
 
 no_change : (rows : Rows) → DescribesUnheld rows rows
@@ -87,10 +91,18 @@ row_clash old now entries entry row here among describes described lacks = by ro
         (let more : 0 < row.holders = omega (arith, some) in
         record { entry = entry; among = among; met = inl (row, here, more, (λ kinds lengths. lacks (record { row = row; here = describes.held entry.name row here more; kinds = kinds; lengths = lengths }))) })
 
--- a name that is there has a row
-pub row_of_listed : (rows : Rows) (name : List ℕ) → is_some (row_in rows name) ≡ true → (row : Row) × (row_in rows name ≡ Some row)
-row_of_listed rows name there = by (row_in rows name) refl there
+-- a row that is there now was there before
+pub row_before : (old now : Rows) (name : List ℕ) (row : Row) → DescribesUnheld old now → row_in now name ≡ Some row → (was : Row) × (row_in old name ≡ Some was)
+row_before old now name row describes here = by (row_in old name) refl
   where
-    by : (o : Option Row) → row_in rows name ≡ o → is_some o ≡ true → (row : Row) × (row_in rows name ≡ Some row)
-    by None is some = absurd (let wrong : ⊥ = cc in wrong)
-    by (Some row) is some = (row, is)
+    by : (o : Option Row) → row_in old name ≡ o → (was : Row) × (row_in old name ≡ Some was)
+    by None is = none_is_some _ row (sym (describes.none name is) ∙ here)
+    by (Some was) is = (was, is)
+
+-- what is listed is what has a row
+pub unlisted : (rows : Rows) (places : Places) (name : List ℕ) → places.names ≡ keys_of rows → row_in rows name ≡ None → is_listed places.names name ≡ false
+unlisted rows places name same none = ap (λ names. is_listed names name) same ∙ listed_lookup rows name ∙ ap is_some none
+
+pub all_listed : (rows : Rows) (places : Places) (entries : List Entry) → places.names ≡ keys_of rows → All (HasRow rows) entries → AreListed places entries
+all_listed rows places entries same have k d small =
+    ap (λ names. is_listed names (slice_index_or entries k d).name) same ∙ listed_lookup rows (slice_index_or entries k d).name ∙ ap is_some (have k d small).here

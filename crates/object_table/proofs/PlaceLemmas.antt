@@ -1,10 +1,11 @@
 -- Names in places: which stand there, which is next, and what the last name does that takes another's place.
-use Rattle.std.proofs.Common.{◌≡◌, ℕ, zero, suc, ◌<◌, ◌≤◌, ◌+◌, ◌-◌, List, [], ◌∷◌, ◌++◌, ◌||◌, ◌&&◌, not, length, get_or, take, set, slice_get, Bool, true, false, Option, Some, None, cond, is_some, Result, Ok, Err, refl, sym, ap, subst, ◌∙◌, arith, length-append, length-take, length-set}
+use Rattle.std.proofs.Common.{◌≡◌, ℕ, zero, suc, ◌<◌, ◌≤◌, ◌+◌, ◌-◌, List, [], ◌∷◌, ◌++◌, ◌⊎◌, inl, inr, ◌||◌, ◌&&◌, not, length, get_or, take, set, slice_get, Bool, true, false, Option, Some, None, cond, is_some, Result, Ok, Err, refl, sym, ap, subst, ◌∙◌, arith, length-append, length-take, length-set}
 use Rattle.std.specs.Prelude.{IsPermutation, swap_remove, nat_lt, if◌then◌else◌}
 use Rattle.std.specs.Result.{OnOk, OnErr}
 use Rattle.std.specs.Option.{option_map_or, unwrap_or}
 use Rattle.std.specs.List.{IsDistinct}
 use Rattle.std.specs.Map.{lookup, keys_of}
+use Rattle.std.proofs.Math.Seq.{get_or-append_seam}
 use Rattle.std.proofs.lemmas.Bool.{ltb-true}
 use Rattle.std.proofs.lemmas.Bool.Decides.{Decides-eqb}
 use Rattle.std.proofs.lemmas.Slice.Eq.{slice_eq-Decides}
@@ -14,7 +15,7 @@ use Rattle.std.proofs.lemmas.Map.Entries.{lookup_from_place}
 use Rattle.std.proofs.lemmas.Cmp.{nat_list_eq_equiv}
 use Rattle.git_name.specs.Same.{is_listed, same_name}
 use Rattle.indexmap.proofs.SetLemmas.{map-swap_remove}
-use Rattle.looks.specs.Places.{looked_at}
+use Rattle.looks.specs.Places.{Places, looked_at}
 use Rattle.object_table.specs.Rows.{LooksNextAt, TableState, count_in, places_of}
 use Rattle.object_table.specs.declared.row.Row.{Row}
 
@@ -76,6 +77,18 @@ pub next_of : (c : TableState) (i : ℕ) (p : List ℕ × Row) → slice_get c.e
 next_of c i p e at =
     let s = parted c.entries i p e in
     record { front = keys_of s.0; back = keys_of s.1; whole = ap keys_of s.2 ∙ map-append (λ p. p.0) s.0 (p ∷ s.1); at = length-map s.0 (λ p. p.0) ∙ s.3 ∙ at }
+
+-- no two names are next
+is_next : (places : Places) (name : List ℕ) → LooksNextAt places name → name ≡ get_or places.names (looked_at places) []
+is_next places name next = sym (get_or-append_seam next.front name next.back []) ∙ ap (λ names. get_or names (length next.front) []) (sym next.whole) ∙ ap (λ i. get_or places.names i []) next.at
+
+pub one_next : (places : Places) (one other : List ℕ) → LooksNextAt places one → LooksNextAt places other → one ≡ other
+one_next places one other first second = is_next places one first ∙ sym (is_next places other second)
+
+-- the next name is held, so no name may leave
+pub none_free : (places : Places) (count : List ℕ → ℕ) (name : List ℕ) → (places.names ≡ []) ⊎ ((held : List ℕ) × LooksNextAt places held × (0 < count held)) → LooksNextAt places name → count name ≡ 0 → ⊥
+none_free places count name (inl none) next free = (let empty = ap length (sym next.whole ∙ none) in omega (arith, empty, length-append next.front (name ∷ next.back)))
+none_free places count name (inr held) next free = (let same = ap count (one_next places held.0 name held.1 next) in let some = held.2 in omega (arith, same, some, free))
 
 pub count_at : (es : List (List ℕ × Row)) (i : ℕ) (p : List ℕ × Row) → IsDistinct same_name (keys_of es) → slice_get es i ≡ Some p → count_in es p.0 ≡ p.1.holders
 count_at es i p distinct e = ap (λ o. option_map_or (λ row. row.holders) o 0) (lookup_from_place nat_list_eq_equiv es i p.0 p.1 distinct e)

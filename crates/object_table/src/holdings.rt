@@ -238,9 +238,10 @@ impl Holdings {
 
     /// Stages these objects for a tenant, in order. On an `Err` none is staged.
     pub fn stage_all(&mut self, tenant: &TenantName, entries: &[Entry]) -> Result<(), StageFault>
-        requires listed { AreListed (places_of self.old.catalogue) entries.now }
         ensures ok { OnOk result (self.new.ledgers ≡ at_ledger self.old.ledgers tenant.now (all_staged_words entries.now)) }
         ensures err { OnErr result (self.new.ledgers ≡ self.old.ledgers) }
+        ensures listed { OnOk result (AreListed (places_of self.old.catalogue) entries.now) }
+        ensures unlisted { IfErr result (λ fault. fault ≡ StageFault.Unlisted → AreListed (places_of self.old.catalogue) entries.now → ⊥) }
         ensures clash { IfErr result (λ fault. fault ≡ StageFault.Clash → Clash self.old.ledgers entries.now) }
         ensures places { places_of self.new.catalogue ≡ places_of self.old.catalogue }
         ensures links { self.new.links ≡ self.old.links }
@@ -259,9 +260,10 @@ impl Holdings {
         kind: Kind,
         length: u64,
     ) -> Result<(), StageFault>
-        requires listed { is_listed (places_of self.old.catalogue).names name ≡ true }
         ensures ok { OnOk result (self.new.ledgers ≡ at_ledger self.old.ledgers tenant.now (staged_words name kind length)) }
         ensures err { OnErr result (self.new.ledgers ≡ self.old.ledgers) }
+        ensures listed { OnOk result (is_listed (places_of self.old.catalogue).names name ≡ true) }
+        ensures unlisted { IfErr result (λ fault. fault ≡ StageFault.Unlisted → is_listed (places_of self.old.catalogue).names name ≡ false) }
         ensures clash { IfErr result (λ fault. fault ≡ StageFault.Clash → AreAs self.old.ledgers name kind length → ⊥) }
         ensures places { places_of self.new.catalogue ≡ places_of self.old.catalogue }
         ensures links { self.new.links ≡ self.old.links }
@@ -484,30 +486,42 @@ impl Holdings {
         self.table.invariant();
     }
 
-    /// Moves the sweep on to the next place.
+    /// Moves the sweep on to the next place, if the catalogue has a name.
     pub fn pass(&mut self)
-        requires { 0 < length (places_of self.old.catalogue).names }
         ensures ledgers { self.new.ledgers ≡ self.old.ledgers }
         ensures names { (places_of self.new.catalogue).names ≡ (places_of self.old.catalogue).names }
-        ensures place { (places_of self.new.catalogue).place ≡ looked_at (places_of self.old.catalogue) + 1 }
+        ensures place { 0 < length (places_of self.old.catalogue).names → (places_of self.new.catalogue).place ≡ looked_at (places_of self.old.catalogue) + 1 }
+        ensures kept { length (places_of self.old.catalogue).names ≡ 0 → self.new ≡ self.old }
         ensures links { self.new.links ≡ self.old.links }
     {
+        if self.table.len() == 0 {
+            return;
+        }
         self.table.pass();
     }
 
-    /// Removes the name that the sweep looks at from the catalogue. Nobody may hold it.
-    pub fn leave(&mut self, name: Name)
-        requires next { LooksNextAt (places_of self.old.catalogue) name }
-        requires free { holders_of self.old.ledgers name ≡ 0 }
+    /// Removes a name from the catalogue, if the sweep looks at it next and nobody holds it. Returns whether it was
+    /// removed.
+    pub fn leave(&mut self, name: Name) -> bool
+        ensures only { result ≡ true → LooksNextAt (places_of self.old.catalogue) name × (holders_of self.old.ledgers name ≡ 0) }
+        ensures can { LooksNextAt (places_of self.old.catalogue) name → holders_of self.old.ledgers name ≡ 0 → result ≡ true }
+        ensures kept { result ≡ false → self.new ≡ self.old }
         ensures ledgers { self.new.ledgers ≡ self.old.ledgers }
-        ensures left { (front back : List (List ℕ)) → (places_of self.old.catalogue).names ≡ front ++ name ∷ back → length front ≡ looked_at (places_of self.old.catalogue)
+        ensures left { result ≡ true → (front back : List (List ℕ)) → (places_of self.old.catalogue).names ≡ front ++ name ∷ back → length front ≡ looked_at (places_of self.old.catalogue)
             → (left : List (List ℕ)) × ((places_of self.new.catalogue).names ≡ front ++ left) × IsPermutation back left }
-        ensures place { (places_of self.new.catalogue).place ≡ looked_at (places_of self.old.catalogue) }
-        ensures listed { (q : List ℕ) → is_listed (places_of self.new.catalogue).names q ≡ (not (same_name name q) && is_listed (places_of self.old.catalogue).names q) }
-        ensures links { KnowsNoMore self.old.links self.new.links }
-        ensures away { map.get self.new.links name ≡ None }
+        ensures place { result ≡ true → (places_of self.new.catalogue).place ≡ looked_at (places_of self.old.catalogue) }
+        ensures listed { result ≡ true → (q : List ℕ) → is_listed (places_of self.new.catalogue).names q ≡ (not (same_name name q) && is_listed (places_of self.old.catalogue).names q) }
+        ensures links { result ≡ true → KnowsNoMore self.old.links self.new.links }
+        ensures away { result ≡ true → map.get self.new.links name ≡ None }
     {
+        let Some(next) = self.free_name() else {
+            return false;
+        };
+        if next != name {
+            return false;
+        }
         leave_in(&mut self.table, &self.ledgers, &mut self.links, name);
+        true
     }
 
     /// Moves the sweep back to the first place.
@@ -665,10 +679,11 @@ fn stage_in(
     entries: &[Entry],
 ) -> Result<(), StageFault>
     requires held { AreHeld table.old.entries ledgers.old }
-    requires listed { AreListed (places_of table.old) entries.now }
     ensures held { AreHeld table.new.entries ledgers.new }
     ensures ok { OnOk result (all_words table.new.entries ledgers.new ≡ at_ledger (all_words table.old.entries ledgers.old) tenant.now (all_staged_words entries.now)) }
     ensures err { OnErr result (all_words table.new.entries ledgers.new ≡ all_words table.old.entries ledgers.old) }
+    ensures listed { OnOk result (AreListed (places_of table.old) entries.now) }
+    ensures unlisted { IfErr result (λ fault. fault ≡ StageFault.Unlisted → AreListed (places_of table.old) entries.now → ⊥) }
     ensures clash { IfErr result (λ fault. fault ≡ StageFault.Clash → Clash (all_words table.old.entries ledgers.old) entries.now) }
     ensures places { places_of table.new ≡ places_of table.old }
     ensures numbers { KeepsNumbers table.old.entries table.new.entries }
@@ -676,9 +691,7 @@ fn stage_in(
     table.invariant();
     let described = describe_all(table, entries);
     table.invariant();
-    if !described {
-        return Err(StageFault::Clash);
-    }
+    described?;
     let Ok(()) = ledgers.stage(table, tenant, entries) else {
         return Err(StageFault::Memory);
     };

@@ -1,5 +1,6 @@
 -- What appends leave of the files of a device, and of the bytes at places.
-use Rattle.std.proofs.Common.{◌≡◌, inl, inr, ℕ, ◌+◌, ◌≤◌, Bool, true, false, List, [], ◌++◌, Option, Some, None, Result, Ok, Err, OnOk, cond, length, take, drop, option_map, refl, sym, ◌∙◌, ap, subst, append-nil, append_assoc, length-append, length-drop, arith}
+use Rattle.std.proofs.Common.{◌≡◌, inl, inr, ℕ, ◌+◌, ◌&&◌, ◌≤◌, Bool, true, false, nat_le, List, [], ◌++◌, Option, Some, None, Result, Ok, Err, OnOk, cond, length, take, drop, option_map, refl, sym, ◌∙◌, ap, subst, append-nil, append_assoc, length-append, length-drop, arith}
+use Rattle.std.proofs.lemmas.Bool.Decides.{nat_tests}
 use Rattle.std.proofs.lemmas.List.{take-append-le, drop-append-le}
 use Rattle.std.specs.Cmp.{eq_by_cmp_equiv}
 use Rattle.std.specs.Ordering.{eq_by_cmp}
@@ -11,8 +12,7 @@ use Rattle.git_name.proofs.MapLemmas.{get_map_values}
 use Rattle.git_name.proofs.Names.{name_total, name_exact}
 use Rattle.loose_store.proofs.FilesLemmas.{tied}
 use Rattle.packed_store.specs.declared.place.Place.{Place}
-use Rattle.packed_store.specs.declared.place.TheConstants.{TITLE}
-use Rattle.packed_store.specs.Place.{AreRecorded, Grows, Index, IsRecorded, IsThere, bytes_at, segment_of, segment_path}
+use Rattle.packed_store.specs.Place.{AreRecorded, Grows, Index, IsRecorded, IsThere, before, bytes_at, last_of, name_before, say_length, segment_of, segment_path}
 
 pub one_path : (a b : List ℕ) → eq_by_cmp name_cmp a b ≡ true → a ≡ b
 one_path a b e = name_exact a b (tied (name_cmp a b) e)
@@ -74,29 +74,54 @@ part_still at len front more fits =
     let left : len ≤ length (drop at front) = omega (arith, length-drop at front) in
     ap (take len) (drop-append-le at front more within) ∙ take-append-le len (drop at front) more left
 
+there_by : (a b : Bool) (o : Option (List ℕ)) (name : List ℕ) → cond (a && b) o None ≡ Some name → a ≡ true
+there_by true b o name is = refl
+there_by false b o name is = let never : ⊥ = cc in absurd never
+
+-- the bytes of a record are there
+pub there_in : (files : Files) (name : List ℕ) (place : Place) → IsRecorded files name place → IsThere files place
+unfolding name_before
+there_in files name place is =
+    let long = nat_le (place.at + place.len) (length (segment_of files place.segment)) in
+    let told : long ≡ true = there_by long (say_length place.len (before files place)) (Some (last_of 32 (before files place))) name is in
+    grind (arith, nat_tests)
+
+said_by : (a b c : Bool) (o : Option (List ℕ)) (name : List ℕ) → c ≡ true → cond (a && b) o None ≡ Some name → cond (c && b) o None ≡ Some name
+said_by true b true o name there is = is
+said_by false b true o name there is = let never : ⊥ = cc in absurd never
+said_by a b false o name there is = let never : ⊥ = cc in absurd never
+
+-- the same bytes before a place end with the same title
+pub recorded_as : (old new : Files) (name : List ℕ) (place : Place) → IsThere new place → before new place ≡ before old place → IsRecorded old name place → IsRecorded new name place
+unfolding name_before
+recorded_as old new name place there same is =
+    let long : nat_le (place.at + place.len) (length (segment_of new place.segment)) ≡ true = grind (arith, nat_tests) in
+    ap (λ (b : List ℕ). cond (nat_le (place.at + place.len) (length (segment_of new place.segment)) && say_length place.len b) (Some (last_of 32 b)) None) same
+    ∙ said_by (nat_le (place.at + place.len) (length (segment_of old place.segment))) (say_length place.len (before old place)) (nat_le (place.at + place.len) (length (segment_of new place.segment))) (Some (last_of 32 (before old place))) name long is
+
 module _ (old new : Files) (grows : Grows old new) where
   -- what is there stays there
   pub there_still : (place : Place) → IsThere old place → IsThere new place
   there_still place there =
       let more = grows (segment_path place.segment) in
-      subst (λ (bytes : List ℕ). place.at + TITLE + place.len ≤ length bytes) (sym more.1)
+      subst (λ (bytes : List ℕ). place.at + place.len ≤ length bytes) (sym more.1)
       (omega (arith, there, length-append (segment_of old place.segment) more.0))
 
   -- and has the same bytes
   pub bytes_still : (place : Place) → IsThere old place → bytes_at new place ≡ bytes_at old place
   bytes_still place there =
       let more = grows (segment_path place.segment) in
-      ap (λ (bytes : List ℕ). take place.len (drop (place.at + TITLE) bytes)) more.1
-      ∙ part_still (place.at + TITLE) place.len (segment_of old place.segment) more.0 there
+      ap (λ (bytes : List ℕ). take place.len (drop place.at bytes)) more.1
+      ∙ part_still place.at place.len (segment_of old place.segment) more.0 there
 
   -- so the record at a place stays
   recorded_still : (name : List ℕ) (place : Place) → IsRecorded old name place → IsRecorded new name place
   recorded_still name place one =
+      let there = there_in old name place one in
       let more = grows (segment_path place.segment) in
-      let fits : place.at + 1 + 36 ≤ length (segment_of old place.segment) = omega (arith, one.0) in (
-        there_still place one.0,
-        ap (λ (bytes : List ℕ). take 36 (drop (place.at + 1) bytes)) more.1 ∙ part_still (place.at + 1) 36 (segment_of old place.segment) more.0 fits ∙ one.1,
-      )
+      let fits : place.at ≤ length (segment_of old place.segment) = omega (arith, there) in
+      let same : before new place ≡ before old place = ap (take place.at) more.1 ∙ take-append-le place.at (segment_of old place.segment) more.0 fits in
+      recorded_as old new name place (there_still place there) same one
 
   pub are_recorded_still : (index : Index) → AreRecorded old index → AreRecorded new index
   are_recorded_still index all name place is = recorded_still name place (all name place is)
@@ -108,7 +133,7 @@ module _ (old new : Files) (grows : Grows old new) where
   -- the bytes at all places of an index
   pub values_still : (index : Index) → AreRecorded old index → map_values (bytes_at new) index ≡ map_values (bytes_at old) index
   values_still index all = same_map name_total name_exact _ _ (λ q.
-      get_map_values name_total (bytes_at new) index q ∙ at_still (get index q) (λ place is. (all q place is).0) ∙ sym (get_map_values name_total (bytes_at old) index q))
+      get_map_values name_total (bytes_at new) index q ∙ at_still (get index q) (λ place is. there_in old q place (all q place is)) ∙ sym (get_map_values name_total (bytes_at old) index q))
 
 set_recorded : (files : Files) (b : Bool) (o : Option Place) (q name : List ℕ) (place one : Place) → (b ≡ true → q ≡ name) → IsRecorded files name place → ((p : Place) → o ≡ Some p → IsRecorded files q p)
     → cond b (Some place) o ≡ Some one → IsRecorded files q one

@@ -15,10 +15,9 @@ use Rattle.git_name.proofs.MapLemmas.{get_map_values}
 use Rattle.git_name.proofs.Names.{name_total, name_exact}
 use Rattle.git_name.proofs.TreeMaps.{get_of_entries}
 use Rattle.packed_store.specs.declared.place.Place.{Place}
-use Rattle.packed_store.specs.declared.place.TheConstants.{TITLE}
 use Rattle.packed_store.specs.Contents.{contents_in}
-use Rattle.packed_store.specs.Place.{AreRecorded, HasNoneIn, Index, IsElsewhere, IsRecorded, KeepsOthers, KeepsPaths, bytes_at, eight_digits, index_of, segment_of, segment_path}
-use Rattle.packed_store.proofs.GrowthLemmas.{one_path}
+use Rattle.packed_store.specs.Place.{AreRecorded, HasNoneIn, Index, IsElsewhere, IsRecorded, IsThere, KeepsOthers, KeepsPaths, bytes_at, eight_digits, index_of, segment_of, segment_path}
+use Rattle.packed_store.proofs.GrowthLemmas.{one_path, recorded_as, there_in}
 use Rattle.packed_store.proofs.LawLemmas.{split_same}
 
 -- zeros before digits
@@ -67,7 +66,7 @@ end_kept segment last count path old mid new before small is same kept counted =
 
 module _ (segment : ℕ) (old new : Files) (kept : KeepsOthers segment old new) where
   one_kept : (place : Place) → IsElsewhere segment place → bytes_at new place ≡ bytes_at old place
-  one_kept place there = ap (λ (bytes : List ℕ). take place.len (drop (place.at + TITLE) bytes)) (kept place.segment there.1 there.0)
+  one_kept place there = ap (λ (bytes : List ℕ). take place.len (drop place.at bytes)) (kept place.segment there.1 there.0)
 
   at_kept : (o : Option Place) → ((place : Place) → o ≡ Some place → IsElsewhere segment place) → option_map (bytes_at new) o ≡ option_map (bytes_at old) o
   at_kept None there = refl
@@ -80,10 +79,9 @@ module _ (segment : ℕ) (old new : Files) (kept : KeepsOthers segment old new) 
 
   recorded_kept : (name : List ℕ) (place : Place) → IsElsewhere segment place → IsRecorded old name place → IsRecorded new name place
   recorded_kept name place one at =
-      let same = kept place.segment one.1 one.0 in (
-        subst (λ (bytes : List ℕ). place.at + TITLE + place.len ≤ length bytes) (sym same) at.0,
-        ap (λ (bytes : List ℕ). take 36 (drop (place.at + 1) bytes)) same ∙ at.1,
-      )
+      let same = kept place.segment one.1 one.0 in
+      let there : IsThere new place = subst (λ (bytes : List ℕ). place.at + place.len ≤ length bytes) (sym same) (there_in old name place at) in
+      recorded_as old new name place there (ap (take place.at) same) at
 
   -- and the records at them stay
   pub are_recorded_kept : (index : Index) → HasNoneIn index segment → AreRecorded old index → AreRecorded new index

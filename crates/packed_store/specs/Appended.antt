@@ -1,8 +1,8 @@
 -- What an append leaves at the end of a segment (own).
 use Rattle.std.specs.Prelude.{◌≡◌, ◌++◌, ℕ, List, Option, Some, None}
 use Rattle.devices.specs.Device.{Files}
-use Rattle.packed_store.specs.Entry.{Entry, IsEntry, Removal, spelled}
-use Rattle.packed_store.specs.Place.{EndsWith, segment_of}
+use Rattle.packed_store.specs.Entry.{Entry, IsEntry, Removal, before_own, spelled}
+use Rattle.packed_store.specs.Place.{EndsAround, EndsWith, segment_of}
 use Rattle.packed_store.specs.Stored.{HasFile}
 use Rattle.packed_store.specs.declared.place.Place.{Place}
 
@@ -19,12 +19,12 @@ pub record HasRecord (files : Files) (entry : Entry) : Type 0 where
   pub rest : List ℕ
   pub whole : segment_of files segment ≡ front ++ (spelled entry ++ rest)
 
--- the segment of a place ends with a record there, which has the file of a name
+-- the segment of a place ends with a record whose bytes are at the place, and are the file of a name
 pub record IsPlaced (files : Files) (name bytes : List ℕ) (place : Place) : Type 0 where
   pub entry : Entry
   pub right : IsEntry entry
   pub file : HasFile entry name bytes
-  pub ends : EndsWith files place.segment place.at (spelled entry)
+  pub ends : EndsAround files place (before_own entry) (spelled entry)
 
 -- if a name has a place, a segment ends with its removal
 abbrev pub IsRemoved : Files → List ℕ → Option Place → Type 0

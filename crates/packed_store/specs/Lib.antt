@@ -2,7 +2,10 @@ pub mod Appended
 pub mod Contents
 pub mod Copied
 pub mod Entry
+pub mod Lasting
+pub mod Opening
 pub mod Place
 pub mod Reading
 pub mod Stored
 pub mod Survey
+pub mod Taking

@@ -1,8 +1,8 @@
 -- Files that are in whole records of segments (own).
-use Rattle.std.specs.Prelude.{◌≡◌, ℕ, List, ◌++◌, Some, length}
+use Rattle.std.specs.Prelude.{◌≡◌, ◌+◌, ℕ, List, ◌++◌, Some, length}
 use Rattle.std.specs.FinMap.{get}
 use Rattle.devices.specs.Device.{Files}
-use Rattle.packed_store.specs.Entry.{Entry, File, IsEntry, Object, Removal, Settled, Undone, spelled}
+use Rattle.packed_store.specs.Entry.{Entry, File, IsEntry, Object, Removal, Settled, Short, Undone, before_own, spelled}
 use Rattle.packed_store.specs.Place.{Index, IsThere, bytes_at, segment_of}
 use Rattle.packed_store.specs.declared.place.Place.{Place}
 use Rattle.packed_store.specs.Survey.{Shown}
@@ -10,6 +10,7 @@ use Rattle.packed_store.specs.Survey.{Shown}
 -- a record has these bytes as the file of a name
 abbrev pub HasFile : Entry → List ℕ → List ℕ → Type 0
 HasFile (Object named own) name bytes = (named ≡ name) × (own ≡ bytes)
+HasFile (Short named own) name bytes = (named ≡ name) × (own ≡ bytes)
 HasFile (File named own) name bytes = (named ≡ name) × (own ≡ bytes)
 HasFile (Removal named) name bytes = ⊥
 HasFile Settled name bytes = ⊥
@@ -25,14 +26,14 @@ pub record IsWritten (files : Files) (name bytes : List ℕ) : Type 0 where
   pub right : IsEntry entry
   pub file : HasFile entry name bytes
 
--- at a place begins a whole record with the file of a name, and the bytes of the place are that file
+-- around a place is a whole record with the file of a name, and the bytes of the place are that file
 pub record IsWrittenAt (files : Files) (name : List ℕ) (place : Place) : Type 0 where
   pub there : IsThere files place
   pub front : List ℕ
   pub entry : Entry
   pub rest : List ℕ
   pub whole : segment_of files place.segment ≡ front ++ (spelled entry ++ rest)
-  pub behind : length front ≡ place.at
+  pub behind : length front + before_own entry ≡ place.at
   pub right : IsEntry entry
   pub file : HasFile entry name (bytes_at files place)
 

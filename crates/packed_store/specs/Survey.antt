@@ -29,13 +29,17 @@ without shown name None = shown
 abbrev pub opened : Shown → Index
 opened shown = joined shown.live shown.pending
 
+-- no removal is pending: what was pending is live
+abbrev pub undone : Shown → Shown
+undone shown = record { live = opened shown; pending = empty }
+
 -- what one more record leaves
 abbrev pub noted : Word → List ℕ → Place → Shown → Shown
 noted Object name place shown = with_file shown name place
 noted File name place shown = with_file shown name place
 noted Removal name place shown = without shown name (get shown.live name)
 noted Settled name place shown = record shown { pending = empty }
-noted Undone name place shown = record { live = opened shown; pending = empty }
+noted Undone name place shown = undone shown
 
 -- a file is live again, unless another of its name is
 abbrev pub restored : Index → List ℕ → Place → Option Place → Index

@@ -1,17 +1,14 @@
 // Segments in the folder of a host.
-use crate::failures::of_device;
 use crate::layout::{Layout, SEGMENTS, layout_of};
 use crate::segments::Segments;
 use devices::{Device, Real};
 use git_name::Hashing;
-use loose_store::{FileFault, create_folder_with};
+use host_folder::{create_folder_with, of_device};
+use loose_store::FileFault;
 use std::alloc::Global;
 use std::fs::File;
 use std::random::RandomSource;
 use std::rt::Files;
-
-// The folder of journals in a host's folder.
-const JOURNALS: &str = "journal";
 
 // Locks the folder of a host, and removes the parts that a killed process was writing.
 fn locked<R: Files<File = File> + AllocGlobal + Clone + Drop>(
@@ -33,12 +30,12 @@ impl<R: Files<File = File> + AllocGlobal + RandomSource + Clone + Drop> Segments
         let Ok(hashing) = Hashing::drawn(&rt) else {
             return Err(FileFault::Device);
         };
-        create_folder_with(&rt, alloc, path, JOURNALS)?;
+        create_folder_with(&rt, alloc, path, &[])?;
         let device = locked(rt.clone()?, alloc, path)?;
         if let Some(Layout::Loose) = layout_of(&rt, alloc, path)? {
             return Err(FileFault::Device);
         }
-        create_folder_with(&rt, alloc, path, SEGMENTS)?;
+        create_folder_with(&rt, alloc, path, &[SEGMENTS])?;
         Segments::over(device, alloc, hashing)
     }
 }

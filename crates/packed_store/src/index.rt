@@ -5,13 +5,13 @@ ghost use Rattle.std.specs.List.{IsDistinct};
 ghost use Rattle.git_name.specs.Same.{Sets, same_name};
 ghost use Rattle.packed_store.specs.Place.{HasNoneIn, IsElsewhere, index_of};
 
-use crate::place::{LAST_SEGMENT, Place, SUMMED};
+use crate::place::{LAST_SEGMENT, Place, TITLE};
 use git_name::{Hashing, Name};
 use indexmap::IndexMap;
 use std::alloc::{AllocError, Global};
 
 // The most files that are copied at once.
-const SLICE_FILES: usize = 1_024;
+const SLICE_FILES: usize = 16_384;
 
 // The most bytes that are copied at once: more than any file has.
 const SLICE_BYTES: u64 = 16_777_216;
@@ -146,11 +146,24 @@ pub(crate) fn some_in(alloc: Global, index: &Index, segment: u32) -> Result<Vec<
     Ok(names)
 }
 
-/// How many bytes the records at all places have, if each is a file's.
+/// Whether the files of a segment are so few that all of them are copied at once.
+pub(crate) fn are_few_in(index: &Index, segment: u32) -> bool {
+    let mut count: usize = 0;
+    let mut bytes: u64 = 0;
+    for place in index.values() {
+        if place.segment == segment {
+            count = count.saturating_add(1);
+            bytes = bytes.saturating_add(place.len as u64);
+        }
+    }
+    count <= SLICE_FILES && bytes <= SLICE_BYTES
+}
+
+/// How many bytes the records at all places have, if each has a long title and no sum.
 pub(crate) fn live_bytes(index: &Index) -> u64 {
     let mut bytes: u64 = 0;
     for place in index.values() {
-        bytes = bytes.saturating_add(place.len as u64 + SUMMED);
+        bytes = bytes.saturating_add(place.len as u64 + TITLE as u64);
     }
     bytes
 }

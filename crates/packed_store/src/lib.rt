@@ -2,10 +2,10 @@
 //! A store of segments is as honest as its device, and shows what the device has at the places of its index.
 #![tactic(auto)]
 
+mod additions;
 mod calls;
 mod compaction;
 mod copying;
-mod failures;
 mod folder;
 mod found;
 mod index;
@@ -20,11 +20,13 @@ mod record;
 mod segments;
 mod storing;
 mod survey;
+mod syncs;
 #[cfg(test)]
 mod tests;
+mod title;
 
 pub use crate::copying::copy_files;
-pub use crate::laws::one_record;
+pub use crate::laws::{one_opening, one_record, what_lasts_is_left};
 pub use crate::layout::{Layout, layout_of};
 pub use crate::layout_change::{begin_repack, clear_repack, settle_repack};
 pub use crate::segments::Segments;

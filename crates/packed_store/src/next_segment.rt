@@ -1,4 +1,4 @@
-ghost use Rattle.std.specs.Prelude.{◌≡◌, IsTrue, IfOk, true, length};
+ghost use Rattle.std.specs.Prelude.{◌≡◌, ◌≤◌, IsTrue, IfOk, true, length};
 ghost use Rattle.devices.specs.Device.{files_of};
 ghost use Rattle.packed_store.specs.Place.{segment_of};
 
@@ -21,6 +21,7 @@ fn is_blank<D: Device>(device: &mut D, alloc: Global, segment: u32) -> Result<bo
 // The number of the next segment, which must not exist.
 fn next_segment<D: Device>(device: &mut D, alloc: Global, segment: u32) -> Result<u32, DeviceFault>
     ensures empty { IsTrue (D.honest device.old) → IfOk result (λ next. length (segment_of (files_of (D.past device.old)) next) ≡ 0) }
+    ensures later { IfOk result (λ next. segment ≤ next) }
     ensures past { IsTrue (D.honest device.old) → D.past device.new ≡ D.past device.old }
     ensures honest { D.honest device.new ≡ D.honest device.old }
 {
@@ -43,6 +44,7 @@ pub(crate) fn segment_after<D: Device>(
     segment: u32,
 ) -> Result<u32, DeviceFault>
     ensures empty { IsTrue (D.honest device.old) → IfOk result (λ next. length (segment_of (files_of (D.past device.old)) next) ≡ 0) }
+    ensures later { IfOk result (λ next. segment ≤ next) }
     ensures past { IsTrue (D.honest device.old) → D.past device.new ≡ D.past device.old }
     ensures honest { D.honest device.new ≡ D.honest device.old }
 {

@@ -7,11 +7,14 @@ use std::alloc::{AllocError, Global};
 /// The longest file: 8 MiB of content, and the header of an object.
 pub(crate) const MAX_FILE: usize = 8_388_608 + 15;
 
-/// The bytes of a record before its own: the kind, the length and the name.
-pub(crate) const TITLE: u64 = 37;
+/// An object's file of fewer bytes has a short title.
+pub(crate) const SHORT: u32 = 32_768;
 
-/// The bytes of a file's record but its own: its title and its sum.
-pub(crate) const SUMMED: u64 = TITLE + 32;
+/// The bytes of a record before its own: the kind, the length and the name.
+pub(crate) const TITLE: u32 = 37;
+
+/// The bytes of a short title.
+pub(crate) const SHORT_TITLE: u32 = 34;
 
 /// The greatest number of a segment.
 pub(crate) const LAST_SEGMENT: u32 = 99_999_999;
@@ -22,7 +25,7 @@ pub(crate) const SEGMENTS: &str = "segments/";
 // How many bytes the path of a segment has.
 const PATH_LENGTH: usize = 17;
 
-/// Where a record is: in which segment, from which byte on, and how many bytes it has after its title.
+/// Where the bytes of a record are that come after its title: in which segment, from which byte on, and how many they are.
 #[derive(Clone, Copy, Debug, Drop)]
 pub(crate) struct Place {
     pub(crate) segment: u32,

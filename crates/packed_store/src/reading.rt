@@ -1,8 +1,9 @@
-ghost use Rattle.std.specs.Prelude.{◌≡◌, ◌≢◌, ◌≤◌, ◌↔◌, ◌++◌, ℕ, List, IsTrue, IfSome, IfNone, length};
+ghost use Rattle.std.specs.Prelude.{◌≡◌, ◌≤◌, ◌↔◌, IsTrue, IfSome, IfNone, length};
 ghost use Rattle.sha2.specs.Sha256.{sha256};
-ghost use Rattle.packed_store.specs.Reading.{Begins, HasNoRecord, IsSummed, IsTitle, title_bytes};
+ghost use Rattle.packed_store.specs.Reading.{Begins, Claims, ClaimsNone, HasNoRecord, IsSummed, IsTitle};
 
-use crate::place::MAX_FILE;
+use crate::place::{SHORT_TITLE, TITLE};
+use crate::title::{FEW, Title, said_size, title_of};
 use git_name::Name;
 use sha2::{Digest, Sha256};
 
@@ -17,50 +18,18 @@ pub(crate) enum Word {
     Undone,
 }
 
-/// A record at the front of bytes: how many bytes it has after its title, and how many in all.
+/// A record at the front of bytes: how many bytes it has before its own, how many are its own, and how many it has in all.
 #[derive(Clone, Copy, Debug)]
 pub(crate) struct Record {
     pub(crate) word: Word,
     pub(crate) name: Name,
+    pub(crate) title: u32,
     pub(crate) len: u32,
     pub(crate) size: u32,
 }
 
 // How many bytes a sum has.
 const SUM: usize = 32;
-
-// The title of a record: its kind, the length of its bytes, and its name.
-#[derive(Clone, Copy, Debug)]
-struct Title {
-    kind: u8,
-    len: u32,
-    name: Name,
-}
-
-// The title at the front of bytes, and what comes after it. None if there is none, or its length is that of no file.
-fn title_of(bytes: &[u8]) -> Option<(Title, &[u8])>
-    ensures title { IfSome result (λ found. IsTitle bytes.now found.0.kind found.0.len found.0.name found.1.now) }
-    ensures fits { IfSome result (λ found. found.0.len ≤ MAX_FILE) }
-    ensures none { IfNone result ((kind len : ℕ) (name rest : List ℕ) → length name ≡ 32 → len ≤ MAX_FILE → bytes.now ≢ title_bytes kind len name ++ rest) }
-{
-    let Some(first) = bytes.split_first() else {
-        return None;
-    };
-    let Some(second) = first.1.split_first_chunk::<4>() else {
-        return None;
-    };
-    let Some(third) = second.1.split_first_chunk::<32>() else {
-        return None;
-    };
-    let kind = *first.0;
-    let len = u32::from_be_bytes(*second.0);
-    let name = Name::new(*third.0);
-    let _own = name.as_bytes();
-    if len as usize > MAX_FILE {
-        return None;
-    }
-    Some((Title { kind, len, name }, third.1))
-}
 
 // Whether the bytes are the same.
 fn is_same(left: &[u8], right: &[u8]) -> bool
@@ -95,8 +64,7 @@ fn is_summed(bytes: &[u8], end: usize) -> bool
 fn object_of(bytes: &[u8], title: Title, rest: &[u8]) -> Option<Record>
     requires kind { title.kind ≡ 111 }
     requires title { IsTitle bytes.now title.kind title.len title.name rest.now }
-    requires fits { title.len ≤ MAX_FILE }
-    ensures found { IfSome result (λ one. Begins bytes.now one.word one.name one.len one.size) }
+    ensures found { IfSome result (λ one. Begins bytes.now one.word one.name one.title one.len one.size) }
     ensures none { IfNone result (HasNoRecord bytes.now) }
 {
     let _bytes = bytes;
@@ -110,8 +78,33 @@ fn object_of(bytes: &[u8], title: Title, rest: &[u8]) -> Option<Record>
     Some(Record {
         word: Word::Object,
         name: title.name,
+        title: TITLE,
         len: title.len,
         size: 37 + title.len,
+    })
+}
+
+// The record of an object with this short title.
+fn short_of(bytes: &[u8], title: Title, rest: &[u8]) -> Option<Record>
+    requires kind { title.kind ≡ 128 }
+    requires title { IsTitle bytes.now title.kind title.len title.name rest.now }
+    ensures found { IfSome result (λ one. Begins bytes.now one.word one.name one.title one.len one.size) }
+    ensures none { IfNone result (HasNoRecord bytes.now) }
+{
+    let _whole = bytes;
+    let len = title.len as usize;
+    if rest.len() < len {
+        return None;
+    }
+    if !is_hash(title.name.as_bytes().as_slice(), &rest[..len]) {
+        return None;
+    }
+    Some(Record {
+        word: Word::Object,
+        name: title.name,
+        title: SHORT_TITLE,
+        len: title.len,
+        size: 34 + title.len,
     })
 }
 
@@ -119,8 +112,7 @@ fn object_of(bytes: &[u8], title: Title, rest: &[u8]) -> Option<Record>
 fn file_of(bytes: &[u8], title: Title, rest: &[u8]) -> Option<Record>
     requires kind { title.kind ≡ 102 }
     requires title { IsTitle bytes.now title.kind title.len title.name rest.now }
-    requires fits { title.len ≤ MAX_FILE }
-    ensures found { IfSome result (λ one. Begins bytes.now one.word one.name one.len one.size) }
+    ensures found { IfSome result (λ one. Begins bytes.now one.word one.name one.title one.len one.size) }
     ensures none { IfNone result (HasNoRecord bytes.now) }
 {
     let _rest = rest;
@@ -130,6 +122,7 @@ fn file_of(bytes: &[u8], title: Title, rest: &[u8]) -> Option<Record>
     Some(Record {
         word: Word::File,
         name: title.name,
+        title: TITLE,
         len: title.len,
         size: 37 + title.len + 32,
     })
@@ -139,8 +132,7 @@ fn file_of(bytes: &[u8], title: Title, rest: &[u8]) -> Option<Record>
 fn removal_of(bytes: &[u8], title: Title, rest: &[u8]) -> Option<Record>
     requires kind { title.kind ≡ 114 }
     requires title { IsTitle bytes.now title.kind title.len title.name rest.now }
-    requires fits { title.len ≤ MAX_FILE }
-    ensures found { IfSome result (λ one. Begins bytes.now one.word one.name one.len one.size) }
+    ensures found { IfSome result (λ one. Begins bytes.now one.word one.name one.title one.len one.size) }
     ensures none { IfNone result (HasNoRecord bytes.now) }
 {
     let _rest = rest;
@@ -153,6 +145,7 @@ fn removal_of(bytes: &[u8], title: Title, rest: &[u8]) -> Option<Record>
     Some(Record {
         word: Word::Removal,
         name: title.name,
+        title: TITLE,
         len: 0,
         size: 69,
     })
@@ -162,8 +155,7 @@ fn removal_of(bytes: &[u8], title: Title, rest: &[u8]) -> Option<Record>
 fn undone_of(bytes: &[u8], title: Title, rest: &[u8]) -> Option<Record>
     requires kind { title.kind ≡ 117 }
     requires title { IsTitle bytes.now title.kind title.len title.name rest.now }
-    requires fits { title.len ≤ MAX_FILE }
-    ensures found { IfSome result (λ one. Begins bytes.now one.word one.name one.len one.size) }
+    ensures found { IfSome result (λ one. Begins bytes.now one.word one.name one.title one.len one.size) }
     ensures none { IfNone result (HasNoRecord bytes.now) }
 {
     let _rest = rest;
@@ -179,6 +171,7 @@ fn undone_of(bytes: &[u8], title: Title, rest: &[u8]) -> Option<Record>
     Some(Record {
         word: Word::Undone,
         name: title.name,
+        title: TITLE,
         len: 0,
         size: 69,
     })
@@ -188,8 +181,7 @@ fn undone_of(bytes: &[u8], title: Title, rest: &[u8]) -> Option<Record>
 fn settled_of(bytes: &[u8], title: Title, rest: &[u8]) -> Option<Record>
     requires kind { title.kind ≡ 115 }
     requires title { IsTitle bytes.now title.kind title.len title.name rest.now }
-    requires fits { title.len ≤ MAX_FILE }
-    ensures found { IfSome result (λ one. Begins bytes.now one.word one.name one.len one.size) }
+    ensures found { IfSome result (λ one. Begins bytes.now one.word one.name one.title one.len one.size) }
     ensures none { IfNone result (HasNoRecord bytes.now) }
 {
     let _rest = rest;
@@ -205,6 +197,7 @@ fn settled_of(bytes: &[u8], title: Title, rest: &[u8]) -> Option<Record>
     Some(Record {
         word: Word::Settled,
         name: title.name,
+        title: TITLE,
         len: 0,
         size: 69,
     })
@@ -212,16 +205,15 @@ fn settled_of(bytes: &[u8], title: Title, rest: &[u8]) -> Option<Record>
 
 /// How many bytes the record has that the title at the front of bytes begins, if all of them are there, right or wrong.
 pub(crate) fn claimed_size(bytes: &[u8]) -> Option<u32>
-    ensures { IfSome result (λ n. n ≤ length bytes.now) }
+    ensures within { IfSome result (λ n. n ≤ length bytes.now) }
+    ensures found { IfSome result (λ n. Claims bytes.now n) }
+    ensures none { IfNone result (ClaimsNone bytes.now) }
 {
     let Some((title, _rest)) = title_of(bytes) else {
         return None;
     };
-    let size = match title.kind {
-        b'o' => 37 + title.len,
-        b'f' => 69 + title.len,
-        b'r' | b's' | b'u' => 69,
-        _ => return None,
+    let Some(size) = said_size(title) else {
+        return None;
     };
     if size as usize > bytes.len() {
         return None;
@@ -231,13 +223,14 @@ pub(crate) fn claimed_size(bytes: &[u8]) -> Option<u32>
 
 /// The whole record at the front of bytes, if one is there.
 pub(crate) fn first_record(bytes: &[u8]) -> Option<Record>
-    ensures found { IfSome result (λ one. Begins bytes.now one.word one.name one.len one.size) }
+    ensures found { IfSome result (λ one. Begins bytes.now one.word one.name one.title one.len one.size) }
     ensures none { IfNone result (HasNoRecord bytes.now) }
 {
     let Some((title, rest)) = title_of(bytes) else {
         return None;
     };
     match title.kind {
+        FEW => short_of(bytes, title, rest),
         b'o' => object_of(bytes, title, rest),
         b'f' => file_of(bytes, title, rest),
         b'r' => removal_of(bytes, title, rest),

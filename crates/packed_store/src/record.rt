@@ -1,10 +1,11 @@
-ghost use Rattle.std.specs.Prelude.{◌≡◌, ◌≤◌, ◌∷◌, ◌++◌, OnOk, IfOk, decimal, length};
-ghost use Rattle.std.specs.Int.{to_be_bytes, w32};
+ghost use Rattle.std.specs.Prelude.{◌≡◌, ◌+◌, ◌<◌, ◌≤◌, ◌∷◌, ◌++◌, OnOk, IfOk, decimal, length};
+ghost use Rattle.std.specs.Int.{to_be_bytes, w16, w32};
 ghost use Rattle.git_name.specs.Name.{IsName};
 ghost use Rattle.git_name.specs.Object.{object_name, typed_bytes};
-ghost use Rattle.packed_store.specs.Entry.{File, Object, Removal, Settled, Undone, spelled, summed};
+ghost use Rattle.packed_store.specs.Entry.{File, Removal, Settled, Undone, object_entry, object_kind, spelled, summed, title_size};
+ghost use Rattle.packed_store.specs.Reading.{title_bytes};
 
-use crate::place::MAX_FILE;
+use crate::place::{MAX_FILE, SHORT, SHORT_TITLE, TITLE};
 use devices::DeviceFault;
 use git_name::{Name, Sealed};
 use itoa::Buffer;
@@ -19,6 +20,37 @@ fn spell_title(room: &mut Vec<u8>, kind: u8, len: u32, name: &[u8; 32]) -> Resul
     room.push(kind)?;
     room.extend_from_slice(len.to_be_bytes().as_slice())?;
     room.extend_from_slice(name.as_slice())
+}
+
+// Spells the short title of a record, and nothing before it.
+fn spell_short_title(room: &mut Vec<u8>, len: u32, name: &[u8; 32]) -> Result<(), AllocError>
+    requires { len < SHORT }
+    ensures { OnOk result (room.new.items ≡ to_be_bytes w16 (SHORT + len) ++ name.now) }
+{
+    let word = (SHORT + len) as u16;
+    room.clear();
+    room.extend_from_slice(word.to_be_bytes().as_slice())?;
+    room.extend_from_slice(name.as_slice())
+}
+
+// Spells the title of an object's record, and nothing before it.
+fn spell_object_title(room: &mut Vec<u8>, len: u32, name: &[u8; 32]) -> Result<(), AllocError>
+    ensures { OnOk result (room.new.items ≡ title_bytes (object_kind len) len name.now) }
+{
+    if len < SHORT {
+        return spell_short_title(room, len, name);
+    }
+    spell_title(room, b'o', len, name)
+}
+
+/// How many bytes the title of an object's record has, by the length of the object's file.
+pub(crate) fn object_title(len: u32) -> u32
+    ensures { result ≡ title_size (object_kind len) }
+{
+    if len < SHORT {
+        return SHORT_TITLE;
+    }
+    TITLE
 }
 
 // Adds the sum of all bytes so far.
@@ -50,7 +82,7 @@ pub(crate) fn spell_file(room: &mut Vec<u8>, name: Name, bytes: &[u8]) -> Result
 
 /// Spells the record of an object by its file. Returns how many bytes that has. One that is too long is not spelled.
 pub(crate) fn spell_hashed(room: &mut Vec<u8>, name: Name, bytes: &[u8]) -> Result<u32, DeviceFault>
-    ensures spelled { OnOk result (room.new.items ≡ spelled (Object name bytes.now)) }
+    ensures spelled { OnOk result (room.new.items ≡ spelled (object_entry name bytes.now)) }
     ensures fits { OnOk result (length bytes.now ≤ MAX_FILE) }
     ensures len { IfOk result (λ len. len ≡ length bytes.now) }
     ensures name { IsName name }
@@ -60,7 +92,7 @@ pub(crate) fn spell_hashed(room: &mut Vec<u8>, name: Name, bytes: &[u8]) -> Resu
         return Err(DeviceFault::Device);
     }
     let len = bytes.len() as u32;
-    spell_title(room, b'o', len, own)?;
+    spell_object_title(room, len, own)?;
     room.extend_from_slice(bytes)?;
     Ok(len)
 }
@@ -78,7 +110,7 @@ fn add_typed(room: &mut Vec<u8>, sealed: &Sealed, digits: &str) -> Result<(), Al
 
 /// Spells the record of an object. Returns how many bytes its file has. One that is too long is not spelled.
 pub(crate) fn spell_object(room: &mut Vec<u8>, sealed: &Sealed) -> Result<u32, DeviceFault>
-    ensures spelled { OnOk result (room.new.items ≡ spelled (Object (object_name sealed.now) (typed_bytes sealed.now))) }
+    ensures spelled { OnOk result (room.new.items ≡ spelled (object_entry (object_name sealed.now) (typed_bytes sealed.now))) }
     ensures fits { OnOk result (length (typed_bytes sealed.now) ≤ MAX_FILE) }
     ensures len { IfOk result (λ len. len ≡ length (typed_bytes sealed.now)) }
     ensures name { IsName (object_name sealed.now) }
@@ -95,7 +127,7 @@ pub(crate) fn spell_object(room: &mut Vec<u8>, sealed: &Sealed) -> Result<u32, D
         return Err(DeviceFault::Device);
     }
     let len = len as u32;
-    spell_title(room, b'o', len, own)?;
+    spell_object_title(room, len, own)?;
     add_typed(room, sealed, digits)?;
     Ok(len)
 }

@@ -1,35 +1,40 @@
-ghost use Rattle.std.specs.Prelude.{◌≡◌, ℕ, List, IfOk, IsTrue, OnOk, Some};
+ghost use Rattle.std.specs.Prelude.{◌≡◌, ℕ, List, IfOk, IsErr, IsTrue, OnOk, Some, true};
 ghost use Rattle.std.specs.FinMap as map;
 ghost use Rattle.devices.specs.Device.{files_of};
 ghost use Rattle.packed_store.specs.Contents.{contents_in};
+ghost use Rattle.packed_store.specs.Lasting.{AreLasting, HasSegment, IsUnfailed};
+ghost use Rattle.packed_store.specs.Opening.{Opens};
 ghost use Rattle.packed_store.specs.Place.{AreRecorded, index_of};
 ghost use Rattle.packed_store.specs.Stored.{IsWritten};
 
 use crate::compaction::make_space;
-use crate::failures::{answered, of_device};
 use crate::found::Found;
-use crate::index::Index;
+use crate::index::{Index, are_few_in};
 use crate::log::Log;
 use crate::storing::{
-    list_names, put_file, put_sealed, read_file, remove_file, settle, sync_all, sync_some,
+    list_names, put_file, put_sealed, read_file, remove_file, settle_removed, sync_all, sync_some,
 };
 use crate::survey::survey;
 use devices::{Device, DeviceFault};
 use git_name::{Hashing, Name, Sealed};
-use loose_store::{FileFault, Gate, LooseFiles};
+use host_folder::{Gate, answered, of_device};
+use loose_store::{FileFault, LooseFiles};
 use std::alloc::{AllocError, Global};
 
 /// Files in the segments of a device, each at `segments/` and eight digits: records behind one another. A segment of 256 MiB
 /// is full. Whenever the process is killed, a file is whole or does not exist. A loss of power may lose what was not synced
 /// (`sync`). A removed file comes back when the segments are opened again, unless the removal was made final
 /// (`forget_removed`). A file that is too long for any object is not put. If the segments have more than twice the bytes of
-/// their live files, each `forget_removed` copies up to 1,024 files of the first one, 16 MiB at most, to the end, and removes it
-/// once it has none. It is as honest as its device.
+/// their live files, each `forget_removed` copies up to 16,384 files of the first one, 16 MiB at most, to the end, and removes
+/// it once it has none; `has_removed` asks for the next one as long as one did something. While the gate is shut it copies only
+/// what frees the segment at once. It is as honest as its device.
 #[derive(Drop)]
 pub struct Segments<D: Device> {
     log: Log<D>,
     index: Index,
     has_removed: bool,
+    // Whether another step towards fewer bytes is worth while.
+    is_sparse: bool,
     failures: u64,
     gate: Gate,
     ghost there: { IsTrue (D.honest log.device) → AreRecorded (files_of (D.past log.device)) (index_of index.entries) },
@@ -44,17 +49,19 @@ impl<D: Device + Drop> Segments<D> {
         gate: Gate,
     ) -> Result<Segments<D>, DeviceFault>
         ensures shows { IsTrue (D.honest device) → IfOk result (λ store. (name bytes : List ℕ) → map.get (contents_in (D.honest store.log.device) (D.past store.log.device) (index_of store.index.entries)) name ≡ Some bytes → IsWritten (files_of (D.past device)) name bytes) }
+        ensures exact { IsTrue (D.honest device) → IfOk result (λ store. Opens (files_of (D.past device)) (contents_in (D.honest store.log.device) (D.past store.log.device) (index_of store.index.entries))) }
         ensures honest { IfOk result (λ store. D.honest store.log.device ≡ D.honest device) }
     {
         let mut found = Found::new(alloc, hashing);
         let extent = survey(&mut device, alloc, &mut found)?;
-        let owes_undo = found.has_pending();
+        let owes_undo = found.owes_undo();
         found.undo()?;
         let log = Log::resume(device, alloc, extent, owes_undo)?;
         Ok(Segments {
             log,
             index: found.live,
             has_removed: false,
+            is_sparse: false,
             failures: 0,
             gate,
         })
@@ -66,6 +73,7 @@ impl<D: Device + Drop> Segments<D> {
     /// removal.
     pub fn over(device: D, alloc: Global, hashing: Hashing) -> Result<Segments<D>, FileFault>
         ensures shows { IsTrue (D.honest device) → IfOk result (λ store. (name bytes : List ℕ) → map.get (contents_in (D.honest store.log.device) (D.past store.log.device) (index_of store.index.entries)) name ≡ Some bytes → IsWritten (files_of (D.past device)) name bytes) }
+        ensures exact { IsTrue (D.honest device) → IfOk result (λ store. Opens (files_of (D.past device)) (contents_in (D.honest store.log.device) (D.past store.log.device) (index_of store.index.entries))) }
         ensures honest { IfOk result (λ store. D.honest store.log.device ≡ D.honest device) }
     {
         let gate = Gate::new(alloc)?;
@@ -134,7 +142,13 @@ impl<D: Device> LooseFiles for Segments<D> {
         answered(&mut self.failures, names)
     }
 
-    fn sync(&mut self, alloc: Global) -> Result<(), FileFault> {
+    fn sync(&mut self, alloc: Global) -> Result<(), FileFault>
+        ensures contents { contents_in (D.honest self.new.log.device) (D.past self.new.log.device) (index_of self.new.index.entries) ≡ contents_in (D.honest self.old.log.device) (D.past self.old.log.device) (index_of self.old.index.entries) }
+        ensures honest { D.honest self.new.log.device ≡ D.honest self.old.log.device }
+        ensures failures { self.new.failures ≡ self.old.failures }
+        ensures lasts { IsTrue (D.honest self.old.log.device) → IsUnfailed (D.past self.old.log.device) → OnOk result (HasSegment (D.past self.new.log.device) → AreLasting (D.past self.new.log.device) self.old.log.first self.old.log.segment) }
+        ensures failed { self.old.log.has_failed ≡ true → IsErr result }
+    {
         match sync_all(&mut self.log, &self.index, alloc) {
             Ok(()) => Ok(()),
             Err(_) if self.log.has_failed() => Err(FileFault::Device),
@@ -147,16 +161,20 @@ impl<D: Device> LooseFiles for Segments<D> {
     }
 
     fn has_removed(&self) -> bool {
-        self.has_removed
+        self.has_removed || self.is_sparse
     }
 
     fn forget_removed(&mut self, alloc: Global) -> Result<(), FileFault> {
-        if !self.has_removed {
+        if !self.has_removed && !self.is_sparse {
             return Ok(());
         }
-        of_device(settle(&mut self.log, &self.index, alloc))?;
+        self.is_sparse = false;
+        let has_removed = self.has_removed;
+        of_device(settle_removed(&mut self.log, &self.index, alloc, has_removed))?;
         self.has_removed = false;
-        make_space(&mut self.log, &mut self.index, alloc);
+        // What is copied takes the room of the state, unless the step frees the segment.
+        let may_copy = !self.gate.is_shut() || are_few_in(&self.index, self.log.first());
+        self.is_sparse = make_space(&mut self.log, &mut self.index, alloc, may_copy);
         Ok(())
     }
 

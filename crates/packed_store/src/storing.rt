@@ -1,5 +1,5 @@
 // What is done to a log and its index together.
-ghost use Rattle.std.specs.Prelude.{◌≡◌, IsTrue, IfOk, OnOk, Some, None, false, true, option_map};
+ghost use Rattle.std.specs.Prelude.{◌≡◌, Err, IsTrue, IfOk, OnOk, Some, None, false, true, option_map};
 ghost use Rattle.std.specs.FinMap as map;
 ghost use Rattle.devices.specs.Device.{files_of};
 ghost use Rattle.git_name.specs.Object.{object_name, typed_bytes};
@@ -7,6 +7,7 @@ ghost use Rattle.loose_store.specs.Files.{SameBut};
 ghost use Rattle.packed_store.specs.Appended.{IsAppended, IsRemoved};
 ghost use Rattle.packed_store.specs.Contents.{contents_in};
 ghost use Rattle.packed_store.specs.Entry.{Settled, Undone};
+ghost use Rattle.packed_store.specs.Lasting.{AreLasting, HasSegment, IsUnfailed};
 ghost use Rattle.packed_store.specs.Place.{AreRecorded, index_of};
 ghost use Rattle.packed_store.specs.Stored.{IsWritten};
 
@@ -113,7 +114,12 @@ pub(crate) fn sync_all<D: Device>(
     index: &Index,
     alloc: Global,
 ) -> Result<(), DeviceFault>
+    ensures lasts { IsTrue (D.honest log.old.device) → IsUnfailed (D.past log.old.device) → OnOk result (HasSegment (D.past log.new.device) → AreLasting (D.past log.new.device) log.new.first log.new.segment) }
+    ensures failed { log.old.has_failed ≡ true → result ≡ Err DeviceFault.Device }
+    ensures first { log.new.first ≡ log.old.first }
+    ensures segment { log.new.segment ≡ log.old.segment }
     ensures clean { OnOk result (log.new.is_dirty ≡ false) }
+    ensures files { IsTrue (D.honest log.old.device) → files_of (D.past log.new.device) ≡ files_of (D.past log.old.device) }
     ensures kept { contents_in (D.honest log.new.device) (D.past log.new.device) (index_of index.now.entries) ≡ contents_in (D.honest log.old.device) (D.past log.old.device) (index_of index.now.entries) }
     ensures there { IsTrue (D.honest log.old.device) → AreRecorded (files_of (D.past log.old.device)) (index_of index.now.entries) → AreRecorded (files_of (D.past log.new.device)) (index_of index.now.entries) }
     ensures honest { D.honest log.new.device ≡ D.honest log.old.device }
@@ -136,13 +142,9 @@ pub(crate) fn sync_some<D: Device>(
     log.sync_ahead(alloc)
 }
 
-/// Makes removals final. Says first what was undone, and syncs what came before: a loss of power must not keep the last
-/// record alone.
-pub(crate) fn settle<D: Device>(
-    log: &mut Log<D>,
-    index: &Index,
-    alloc: Global,
-) -> Result<(), DeviceFault>
+// Makes removals final. Says first what was undone, and syncs what came before: a loss of power must not keep the last record
+// alone.
+fn settle<D: Device>(log: &mut Log<D>, index: &Index, alloc: Global) -> Result<(), DeviceFault>
     ensures kept { (IsTrue (D.honest log.old.device) → AreRecorded (files_of (D.past log.old.device)) (index_of index.now.entries)) → contents_in (D.honest log.new.device) (D.past log.new.device) (index_of index.now.entries) ≡ contents_in (D.honest log.old.device) (D.past log.old.device) (index_of index.now.entries) }
     ensures there { IsTrue (D.honest log.old.device) → AreRecorded (files_of (D.past log.old.device)) (index_of index.now.entries) → AreRecorded (files_of (D.past log.new.device)) (index_of index.now.entries) }
     ensures settled { IsTrue (D.honest log.old.device) → OnOk result (IsAppended (files_of (D.past log.new.device)) Settled) }
@@ -151,6 +153,24 @@ pub(crate) fn settle<D: Device>(
     add_undone(log, index, alloc)?;
     sync_all(log, index, alloc)?;
     add_settled(log, index, alloc)
+}
+
+/// Makes removals final, if there are any.
+pub(crate) fn settle_removed<D: Device>(
+    log: &mut Log<D>,
+    index: &Index,
+    alloc: Global,
+    has_removed: bool,
+) -> Result<(), DeviceFault>
+    ensures kept { (IsTrue (D.honest log.old.device) → AreRecorded (files_of (D.past log.old.device)) (index_of index.now.entries)) → contents_in (D.honest log.new.device) (D.past log.new.device) (index_of index.now.entries) ≡ contents_in (D.honest log.old.device) (D.past log.old.device) (index_of index.now.entries) }
+    ensures there { IsTrue (D.honest log.old.device) → AreRecorded (files_of (D.past log.old.device)) (index_of index.now.entries) → AreRecorded (files_of (D.past log.new.device)) (index_of index.now.entries) }
+    ensures settled { IsTrue (D.honest log.old.device) → has_removed ≡ true → OnOk result (IsAppended (files_of (D.past log.new.device)) Settled) }
+    ensures honest { D.honest log.new.device ≡ D.honest log.old.device }
+{
+    if has_removed {
+        return settle(log, index, alloc);
+    }
+    Ok(())
 }
 
 // Appends that removals were undone, if that is owed.

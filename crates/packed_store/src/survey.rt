@@ -1,14 +1,17 @@
 // What the segments of a device have.
-ghost use Rattle.std.specs.Prelude.{◌≡◌, ◌+◌, ◌<◌, ◌≤◌, IsTrue, IfOk, OnOk, false, true, length};
+ghost use Rattle.std.specs.Prelude.{◌≡◌, ◌+◌, ◌<◌, ◌≤◌, ℕ, IsTrue, IfOk, IfSome, IfNone, OnOk, None, drop, false, true, length};
 ghost use Rattle.devices.specs.Device.{Files, files_of};
-ghost use Rattle.packed_store.specs.Place.{bytes_of, segment_of};
+ghost use Rattle.packed_store.specs.Opening.{Adds, Surveys, listed};
+ghost use Rattle.packed_store.specs.Place.{IsNumbered, bytes_of, segment_of};
 ghost use Rattle.packed_store.specs.Stored.{AllWritten, IsPart};
 ghost use Rattle.packed_store.specs.Survey.{shown_in};
+ghost use Rattle.packed_store.specs.Taking.{Reads, ReadsAll, Takes, seen_in};
 
 use crate::found::Found;
-use crate::place::{SEGMENTS, path_of};
+use crate::place::{MAX_FILE, SEGMENTS, path_of};
 use devices::{Device, DeviceFault};
 use std::alloc::Global;
+use std::str;
 
 // The most bytes that are read at once: at least as many as any record has.
 const WINDOW: u32 = 16_777_216;
@@ -113,6 +116,7 @@ fn survey_bytes<D: Device>(
     found: &mut Found,
 ) -> Result<bool, DeviceFault>
     ensures written { IsTrue (D.honest device.old) → OnOk result (AllWritten (files_of (D.past device.old)) (shown_in found.old.live.entries found.old.pending.entries) → AllWritten (files_of (D.past device.old)) (shown_in found.new.live.entries found.new.pending.entries)) }
+    ensures reads { IsTrue (D.honest device.old) → length (segment_of (files_of (D.past device.old)) segment) ≡ end → OnOk result (ReadsAll (segment_of (files_of (D.past device.old)) segment) segment (seen_in found.old.live.entries found.old.pending.entries found.old.is_damaged) (seen_in found.new.live.entries found.new.pending.entries found.new.is_damaged)) }
     ensures past { IsTrue (D.honest device.old) → D.past device.new ≡ D.past device.old }
     ensures honest { D.honest device.new ≡ D.honest device.old }
 {
@@ -137,6 +141,8 @@ fn take_window(
 ) -> Result<u32, DeviceFault>
     ensures within { IfOk result (λ taken. at + taken ≤ end) }
     ensures written { OnOk result ((files : Files) → IsPart files segment at bytes.now → AllWritten files (shown_in found.old.live.entries found.old.pending.entries) → AllWritten files (shown_in found.new.live.entries found.new.pending.entries)) }
+    ensures reads { IfOk result (λ taken. Reads bytes.now segment at (seen_in found.old.live.entries found.old.pending.entries found.old.is_damaged) (seen_in found.new.live.entries found.new.pending.entries found.new.is_damaged) taken) }
+    ensures ends { IfOk result (λ taken. Takes (drop taken bytes.now) segment (at + taken) (seen_in found.new.live.entries found.new.pending.entries found.new.is_damaged) (seen_in found.new.live.entries found.new.pending.entries found.new.is_damaged) None) }
 {
     if at > end {
         return Err(DeviceFault::Device);
@@ -145,6 +151,18 @@ fn take_window(
         return Err(DeviceFault::Device);
     }
     Ok(found.take_in(bytes, segment, at)?)
+}
+
+// How many bytes of a segment are read at once, from a byte on. Unless they are the last ones, they have room for any record.
+fn window_at(at: u32, end: u32) -> u32
+    requires { at < end }
+    ensures within { at + result ≤ end }
+    ensures long { at + result < end → MAX_FILE + 69 ≤ result }
+{
+    if end - at <= WINDOW {
+        return end - at;
+    }
+    WINDOW
 }
 
 // Reads a window of a segment, and takes in the whole records at its front.
@@ -159,11 +177,13 @@ fn take_next<D: Device>(
     requires { at < end }
     ensures within { IfOk result (λ taken. at + taken ≤ end) }
     ensures written { IsTrue (D.honest device.old) → OnOk result (AllWritten (files_of (D.past device.old)) (shown_in found.old.live.entries found.old.pending.entries) → AllWritten (files_of (D.past device.old)) (shown_in found.new.live.entries found.new.pending.entries)) }
+    ensures reads { IsTrue (D.honest device.old) → IfOk result (λ taken. Reads (drop at (segment_of (files_of (D.past device.old)) segment)) segment at (seen_in found.old.live.entries found.old.pending.entries found.old.is_damaged) (seen_in found.new.live.entries found.new.pending.entries found.new.is_damaged) taken) }
+    ensures ends { IsTrue (D.honest device.old) → length (segment_of (files_of (D.past device.old)) segment) ≡ end → IfOk result (λ taken. taken ≡ 0 → Takes (drop at (segment_of (files_of (D.past device.old)) segment)) segment at (seen_in found.new.live.entries found.new.pending.entries found.new.is_damaged) (seen_in found.new.live.entries found.new.pending.entries found.new.is_damaged) None) }
     ensures past { IsTrue (D.honest device.old) → D.past device.new ≡ D.past device.old }
     ensures honest { D.honest device.new ≡ D.honest device.old }
 {
     let path = path_of(alloc, segment)?;
-    let size = (end - at).min(WINDOW);
+    let size = window_at(at, end);
     let Some(bytes) = device.read_part(alloc, path.as_str(), at as u64, size as usize)? else {
         return Err(DeviceFault::Device);
     };
@@ -179,6 +199,7 @@ fn survey_segment<D: Device>(
 ) -> Result<Last, DeviceFault>
     ensures written { IsTrue (D.honest device.old) → OnOk result (AllWritten (files_of (D.past device.old)) (shown_in found.old.live.entries found.old.pending.entries) → AllWritten (files_of (D.past device.old)) (shown_in found.new.live.entries found.new.pending.entries)) }
     ensures last { IsTrue (D.honest device.old) → IfOk result (λ last. length (segment_of (files_of (D.past device.old)) last.segment) ≡ last.end) }
+    ensures reads { IsTrue (D.honest device.old) → OnOk result (ReadsAll (segment_of (files_of (D.past device.old)) segment) segment (seen_in found.old.live.entries found.old.pending.entries false) (seen_in found.new.live.entries found.new.pending.entries found.new.is_damaged)) }
     ensures past { IsTrue (D.honest device.old) → D.past device.new ≡ D.past device.old }
     ensures honest { D.honest device.new ≡ D.honest device.old }
 {
@@ -194,21 +215,54 @@ fn survey_segment<D: Device>(
 }
 
 // The number that eight digits write. The first segment is 1.
-fn number_of(called: &[u8]) -> Option<u32> {
+fn number_of(called: &[u8]) -> Option<u32>
+    ensures found { IfSome result (λ segment. IsNumbered called.now segment) }
+    ensures none { IfNone result ((segment : ℕ) → IsNumbered called.now segment → ⊥) }
+{
     if called.len() != 8 {
         return None;
     }
-    let mut number: u32 = 0;
-    for digit in called {
-        if !digit.is_ascii_digit() {
-            return None;
-        }
-        number = number.wrapping_mul(10).wrapping_add((*digit - b'0') as u32);
+    if called[0] == b'+' {
+        return None;
     }
+    let Ok(digits) = str::from_utf8(called) else {
+        return None;
+    };
+    let Ok(number) = digits.parse::<u32>() else {
+        return None;
+    };
     if number == 0 {
         return None;
     }
     Some(number)
+}
+
+// Takes in the whole records of a segment, if one is called so.
+fn survey_called<D: Device>(
+    device: &mut D,
+    alloc: Global,
+    called: &[u8],
+    found: &mut Found,
+) -> Result<Option<Last>, DeviceFault>
+    ensures written { IsTrue (D.honest device.old) → OnOk result (AllWritten (files_of (D.past device.old)) (shown_in found.old.live.entries found.old.pending.entries) → AllWritten (files_of (D.past device.old)) (shown_in found.new.live.entries found.new.pending.entries)) }
+    ensures last { IsTrue (D.honest device.old) → IfOk result (λ next. IfSome next (λ last. length (segment_of (files_of (D.past device.old)) last.segment) ≡ last.end)) }
+    ensures adds { IsTrue (D.honest device.old) → OnOk result (Adds (files_of (D.past device.old)) called.now (shown_in found.old.live.entries found.old.pending.entries) (shown_in found.new.live.entries found.new.pending.entries)) }
+    ensures past { IsTrue (D.honest device.old) → D.past device.new ≡ D.past device.old }
+    ensures honest { D.honest device.new ≡ D.honest device.old }
+{
+    let Some(segment) = number_of(called) else {
+        return Ok(None);
+    };
+    let last = survey_segment(device, alloc, segment, found)?;
+    Ok(Some(last))
+}
+
+// How many bytes a segment has, if it is one.
+fn bytes_in(next: Option<Last>) -> u64 {
+    match next {
+        Some(last) => last.end as u64,
+        None => 0,
+    }
 }
 
 // The number of the first segment in a listing, and 1 if there is none.
@@ -228,6 +282,7 @@ pub(crate) fn survey<D: Device>(
     found: &mut Found,
 ) -> Result<Extent, DeviceFault>
     ensures written { IsTrue (D.honest device.old) → OnOk result (AllWritten (files_of (D.past device.old)) (shown_in found.old.live.entries found.old.pending.entries) → AllWritten (files_of (D.past device.old)) (shown_in found.new.live.entries found.new.pending.entries)) }
+    ensures surveys { IsTrue (D.honest device.old) → OnOk result (Surveys (files_of (D.past device.old)) (listed (files_of (D.past device.old))) (shown_in found.old.live.entries found.old.pending.entries) (shown_in found.new.live.entries found.new.pending.entries)) }
     ensures last { IsTrue (D.honest device.old) → IfOk result (λ extent. extent.last.is_torn ≡ false → length (segment_of (files_of (D.past device.old)) extent.last.segment) ≡ extent.last.end) }
     ensures past { IsTrue (D.honest device.old) → D.past device.new ≡ D.past device.old }
     ensures honest { D.honest device.new ≡ D.honest device.old }
@@ -240,11 +295,9 @@ pub(crate) fn survey<D: Device>(
     let mut total: u64 = 0;
     let listing = device.list(alloc, SEGMENTS)?;
     for called in listing.iter() {
-        let Some(segment) = number_of(called.as_slice()) else {
-            continue;
-        };
-        last = survey_segment(device, alloc, segment, found)?;
-        total = total.saturating_add(last.end as u64);
+        let next = survey_called(device, alloc, called.as_slice(), found)?;
+        total = total.saturating_add(bytes_in(next));
+        last = next.unwrap_or(last);
     }
     let first = first_in(listing.as_slice());
     Ok(Extent { last, first, total })

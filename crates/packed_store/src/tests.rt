@@ -18,6 +18,13 @@ fn two() -> Name {
     Name::new([2; 32])
 }
 
+// The file of an object, and its name.
+const HELLO: &[u8] = b"blob 6\0hello\n";
+
+fn hello() -> Name {
+    git_name::name_of(Kind::Blob, b"hello\n")
+}
+
 fn opened(alloc: Global, device: Memory) -> Result<Store, FileFault> {
     Segments::over(device, alloc, Hashing::default())
 }
@@ -109,6 +116,54 @@ fn segment_of_two(alloc: Global) -> Result<Vec<u8>, FileFault> {
         Ok(Some(bytes)) => Ok(bytes),
         _ => Err(FileFault::Device),
     }
+}
+
+// A segment with an object whose title is long, though its file is short.
+fn segment_of_long(alloc: Global) -> Result<Vec<u8>, FileFault> {
+    let mut bytes = b"o\0\0\0\r".to_vec(alloc)?;
+    bytes.extend_from_slice(hello().as_bytes().as_slice())?;
+    bytes.extend_from_slice(HELLO)?;
+    Ok(bytes)
+}
+
+// Whether a segment shows the object.
+fn shows_hello(alloc: Global, bytes: &[u8]) -> Result<bool, FileFault> {
+    let mut device = Memory::new(alloc);
+    let written = device.write(FIRST, bytes);
+    let mut store = opened(alloc, device)?;
+    let is_there = shows(alloc, &mut store, hello(), HELLO);
+    drop(store);
+    Ok(written.is_ok() && is_there)
+}
+
+#[test]
+fn an_object_with_a_long_title_is_read(rt: HostRuntime) -> Result<(), Fail> {
+    let bytes = segment_of_long(rt.alloc())?;
+    assert_eq!(rt; bytes.len(), 37 + HELLO.len());
+    assert!(rt; shows_hello(rt.alloc(), bytes.as_slice())?);
+    Ok(())
+}
+
+// The bytes of the first segment once the object is put.
+fn segment_of_hello(alloc: Global) -> Result<Vec<u8>, FileFault> {
+    let mut store = opened(alloc, Memory::new(alloc))?;
+    let put = store.put(alloc, hello(), HELLO);
+    let mut device = store.into_device();
+    let bytes = device.read(alloc, FIRST, 1000);
+    drop(device);
+    put?;
+    match bytes {
+        Ok(Some(bytes)) => Ok(bytes),
+        _ => Err(FileFault::Device),
+    }
+}
+
+#[test]
+fn a_short_object_has_a_short_title(rt: HostRuntime) -> Result<(), Fail> {
+    let bytes = segment_of_hello(rt.alloc())?;
+    assert_eq!(rt; bytes.len(), 34 + HELLO.len());
+    assert!(rt; shows_hello(rt.alloc(), bytes.as_slice())?);
+    Ok(())
 }
 
 // How many bytes the record of `first` has: a title, the bytes and a sum.

@@ -1,6 +1,7 @@
 use devices::{Device, DeviceFault, Memory};
+use folder_store::Folder;
 use git_name::{Hashing, Kind, Name, name_of};
-use loose_store::{FileFault, Folder, LooseFiles};
+use loose_store::{FileFault, LooseFiles};
 use std::alloc::Global;
 use std::test::Fail;
 

@@ -1,9 +1,16 @@
-use Rattle.std.proofs.Common.{ap, map, subst, ◌∙◌}
+use Rattle.std.proofs.Common.{ap, map, subst, sym, ◌∙◌}
+use Rattle.object_table.specs.AllStaged.{AreListed}
 use Rattle.object_table.specs.Clashes.{Clash}
+use Rattle.object_table.specs.Rows.{places_of}
 use Rattle.object_table.specs.Told.{entry_of}
 use Rattle.fork_ledger.proofs.ClashLemmas.{no_clash}
 use Rattle.fork_ledger.proofs.LedLemmas.{learns_among, learns_same, led_received, led_stays}
 use Rattle.fork_ledger.proofs.staging.stage_all_fit.Goals as goal
+
+pub unreachable-requires : goal.unreachable-requires
+unreachable-requires g c =
+    let entries = c.as_slice-2.ensures.value ∙ c.in-Ok.ensures ∙ ap (map entry_of) c.as_slice.ensures.value in
+    c.in-Err-Unlisted.ensures.unlisted c.in-Err-Unlisted.field-0-is (subst (AreListed (places_of c.receive_all.new.holdings.catalogue)) (sym entries) c.in-Ok-receive_all.ensures.listed)
 
 pub returns-clause-collision : goal.returns-clause-collision
 returns-clause-collision g c = λ h is.

@@ -11,12 +11,13 @@ use Rattle.fork_ledger.proofs.sweep_step.take_away.Goals as goal
 
 pub returns-in-Ok-clause-look : goal.returns-in-Ok-clause-look
 returns-in-Ok-clause-look g c =
+    let went = c.leave.ensures.can c.requires.next c.requires.free in
     look_leaves (is_held_in c.args.holdings.now.ledgers) (places_of c.args.holdings.now.catalogue) (places_of c.leave.new.self.catalogue) c.args.name c.requires.next
-    (not_held (holders_of c.args.holdings.now.ledgers c.args.name) c.requires.free) (c.leave.ensures.left c.requires.next.front c.requires.next.back c.requires.next.whole c.requires.next.at) c.leave.ensures.place
+    (not_held (holders_of c.args.holdings.now.ledgers c.args.name) c.requires.free) (c.leave.ensures.left went c.requires.next.front c.requires.next.back c.requires.next.whole c.requires.next.at) (c.leave.ensures.place went)
 
 pub returns-in-Ok-clause-count : goal.returns-in-Ok-clause-count
 returns-in-Ok-clause-count g c =
-    fewer_names (places_of c.args.holdings.now.catalogue) (places_of c.leave.new.self.catalogue) c.args.name c.requires.next (c.leave.ensures.left c.requires.next.front c.requires.next.back c.requires.next.whole c.requires.next.at)
+    fewer_names (places_of c.args.holdings.now.catalogue) (places_of c.leave.new.self.catalogue) c.args.name c.requires.next (c.leave.ensures.left (c.leave.ensures.can c.requires.next c.requires.free) c.requires.next.front c.requires.next.back c.requires.next.whole c.requires.next.at)
 
 pub returns-in-Ok-clause-keeps : goal.returns-in-Ok-clause-keeps
 returns-in-Ok-clause-keeps g c = λ h.
@@ -35,7 +36,7 @@ returns-in-Err-Memory-clause-keeps g c = λ h.
 
 pub returns-in-Ok-clause-covers : goal.returns-in-Ok-clause-covers
 returns-in-Ok-clause-covers g c = λ h cover.
-    covers_left c.args.files.now.contents c.remove.new.self.contents (places_of c.args.holdings.now.catalogue) (places_of c.leave.new.self.catalogue) c.args.name cover c.leave.ensures.listed
+    covers_left c.args.files.now.contents c.remove.new.self.contents (places_of c.args.holdings.now.catalogue) (places_of c.leave.new.self.catalogue) c.args.name cover (c.leave.ensures.listed (c.leave.ensures.can c.requires.next c.requires.free))
     (c.remove.ensures.others h) (ap (λ m. map.get m c.args.name) (c.in-Ok.ensures.ok h) ∙ removed_none c.args.files.now.contents c.args.name)
 
 pub returns-in-Err-Device-clause-covers : goal.returns-in-Err-Device-clause-covers
@@ -50,14 +51,15 @@ returns-in-Err-Memory-clause-covers g c = λ h cover.
 
 pub returns-in-Ok-clause-exact : goal.returns-in-Ok-clause-exact
 returns-in-Ok-clause-exact g c = λ h exact.
-    exact_left c.args.files.now.contents c.remove.new.self.contents (places_of c.args.holdings.now.catalogue) (places_of c.leave.new.self.catalogue) c.args.name c.leave.ensures.listed (c.remove.ensures.others h) exact
+    exact_left c.args.files.now.contents c.remove.new.self.contents (places_of c.args.holdings.now.catalogue) (places_of c.leave.new.self.catalogue) c.args.name (c.leave.ensures.listed (c.leave.ensures.can c.requires.next c.requires.free)) (c.remove.ensures.others h) exact
 
 pub returns-in-Ok-clause-away : goal.returns-in-Ok-clause-away
 returns-in-Ok-clause-away g c = λ h. away_one c.args.files.now.contents c.remove.new.self.contents c.args.name (c.in-Ok.ensures.ok h)
 
 pub returns-in-Ok-clause-led : goal.returns-in-Ok-clause-led
 returns-in-Ok-clause-led g c = λ h led.
-    led_but c.args.name c.args.holdings.now.links c.leave.new.self.links c.args.files.now.contents c.remove.new.self.contents (c.remove.ensures.others h) c.leave.ensures.links c.leave.ensures.away led
+    let went = c.leave.ensures.can c.requires.next c.requires.free in
+    led_but c.args.name c.args.holdings.now.links c.leave.new.self.links c.args.files.now.contents c.remove.new.self.contents (c.remove.ensures.others h) (c.leave.ensures.links went) (c.leave.ensures.away went) led
 
 pub returns-in-Err-Device-clause-led : goal.returns-in-Err-Device-clause-led
 returns-in-Err-Device-clause-led g c = λ h led.

@@ -6,8 +6,8 @@ use Rattle.fork_program.proofs.at_once.kept_rounds.Goals as goal
 pub returns-then-is_done-clause-served : goal.returns-then-is_done-clause-served
 returns-then-is_done-clause-served g c = served_to_end _ _ _ c.loop.invariant.0 (Idle refl)
 
-pub returns-in_err-attended-clause-served : goal.returns-in_err-attended-clause-served
-returns-in_err-attended-clause-served g c = served_to_end _ _ _ c.loop.invariant.0 (Idle refl)
+pub returns-in_err-attended_kept-clause-served : goal.returns-in_err-attended_kept-clause-served
+returns-in_err-attended_kept-clause-served g c = served_to_end _ _ _ c.loop.invariant.0 (Idle refl)
 
 pub returns-in_err-visit_all-clause-served : goal.returns-in_err-visit_all-clause-served
 returns-in_err-visit_all-clause-served g c = served_to_end _ _ _ c.loop.invariant.0 c.visit_all.ensures.visited

@@ -3,6 +3,9 @@ use Rattle.fork_program.specs.Serving.{Idle}
 use Rattle.fork_program.proofs.VisitLemmas.{paused, served_to_end}
 use Rattle.fork_program.proofs.one_after_another.visits.Goals as goal
 
+pub returns-in_err-check_folder-clause-served : goal.returns-in_err-check_folder-clause-served
+returns-in_err-check_folder-clause-served g c = served_to_end _ _ _ c.loop.invariant (Idle refl)
+
 pub returns-in_err-goes_on-clause-served : goal.returns-in_err-goes_on-clause-served
 returns-in_err-goes_on-clause-served g c = served_to_end _ _ _ c.loop.invariant c.visit.ensures.visited
 

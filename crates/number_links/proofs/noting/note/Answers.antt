@@ -24,4 +24,4 @@ returns c =
     let n = c.args.n in
     sees_new 4294967296 (past (has c.args.allowed.now) (has c.args.hidden.now)) n (has c.args.seen.now) c.args.waiting.now.items (has c.insert.new.self) c.push.new.self.items (omega arith)
     (and_from (not (has c.args.hidden.now n)) (has c.args.allowed.now n) (not_from_false (has c.args.hidden.now n) (sym c.contains-2.ensures ∙ c.if-contains-2.false)) (sym c.contains-3.ensures ∙ c.if-not-contains.false))
-    (sym c.contains.ensures ∙ c.if-contains.false) (λ q. c.insert.ensures.has q ∙ ap (λ b. nat_eq q n || b) (c.reserve.ensures.has q)) c.in_ok-push.ensures.items
+    (sym c.contains.ensures ∙ c.if-contains.false) (λ q. c.insert.ensures.has c.in_ok-reserve.ensures.ok q ∙ ap (λ b. nat_eq q n || b) (c.reserve.ensures.has q)) c.in_ok-push.ensures.items

@@ -8,9 +8,9 @@ pub returns-clause-found : goal.returns-clause-found
 returns-clause-found c =
     let sum : IsSummed (37 + c.args.title.len) c.args.bytes.now = search rules in
     begins_file c.args.title.len c.args.bytes.now c.args.title.name c.args.rest.now
-    (subst (λ (k : ℕ). IsTitle c.args.bytes.now k c.args.title.len c.args.title.name c.args.rest.now) c.requires.kind c.requires.title) c.requires.fits sum
+    (subst (λ (k : ℕ). IsTitle c.args.bytes.now k c.args.title.len c.args.title.name c.args.rest.now) c.requires.kind c.requires.title) sum
 
 pub returns-then-not-is_summed-clause-none : goal.returns-then-not-is_summed-clause-none
 returns-then-not-is_summed-clause-none c =
     let differs : IsSummed (37 + c.args.title.len) c.args.bytes.now → ⊥ = search rules in
-    not_file c.args.bytes.now c.args.title.len c.args.title.name c.args.rest.now (subst (λ (k : ℕ). IsTitle c.args.bytes.now k c.args.title.len c.args.title.name c.args.rest.now) c.requires.kind c.requires.title) c.requires.fits differs
+    not_file c.args.bytes.now c.args.title.len c.args.title.name c.args.rest.now (subst (λ (k : ℕ). IsTitle c.args.bytes.now k c.args.title.len c.args.title.name c.args.rest.now) c.requires.kind c.requires.title) differs

@@ -15,5 +15,5 @@ returns-clause-found c =
 pub returns-then-not-is_summed-clause-none : goal.returns-then-not-is_summed-clause-none
 returns-then-not-is_summed-clause-none c =
     let differs : IsSummed 37 c.args.bytes.now → ⊥ = search rules in
-    not_summed c.args.bytes.now c.args.title.kind c.args.title.len c.args.title.name c.args.rest.now c.requires.title c.requires.fits (λ k. let never : ⊥ = omega (arith, k, c.requires.kind) in never)
+    not_summed c.args.bytes.now c.args.title.kind c.args.title.len c.args.title.name c.args.rest.now c.requires.title (λ k. let never : ⊥ = omega (arith, k, c.requires.kind) in never) (λ k. let never : ⊥ = omega (arith, k, c.requires.kind) in never)
     (λ k. let never : ⊥ = omega (arith, k, c.requires.kind) in never) differs

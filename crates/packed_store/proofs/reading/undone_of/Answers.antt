@@ -17,11 +17,11 @@ returns-clause-found c =
 pub returns-then-not-is_same-clause-none : goal.returns-then-not-is_same-clause-none
 returns-then-not-is_same-clause-none c =
     let differs : c.args.title.name ≡ no_name → ⊥ = search rules in
-    not_blank c.args.bytes.now c.args.title.kind c.args.title.len c.args.title.name c.args.rest.now c.requires.title c.requires.fits (λ k. let never : ⊥ = omega (arith, k, c.requires.kind) in never)
+    not_blank c.args.bytes.now c.args.title.kind c.args.title.len c.args.title.name c.args.rest.now c.requires.title (λ k. let never : ⊥ = omega (arith, k, c.requires.kind) in never) (λ k. let never : ⊥ = omega (arith, k, c.requires.kind) in never)
     (λ k. let never : ⊥ = omega (arith, k, c.requires.kind) in never) (λ k. let never : ⊥ = omega (arith, k, c.requires.kind) in never) differs
 
 pub returns-then-not-is_summed-clause-none : goal.returns-then-not-is_summed-clause-none
 returns-then-not-is_summed-clause-none c =
     let differs : IsSummed 37 c.args.bytes.now → ⊥ = search rules in
-    not_summed c.args.bytes.now c.args.title.kind c.args.title.len c.args.title.name c.args.rest.now c.requires.title c.requires.fits (λ k. let never : ⊥ = omega (arith, k, c.requires.kind) in never)
+    not_summed c.args.bytes.now c.args.title.kind c.args.title.len c.args.title.name c.args.rest.now c.requires.title (λ k. let never : ⊥ = omega (arith, k, c.requires.kind) in never) (λ k. let never : ⊥ = omega (arith, k, c.requires.kind) in never)
     (λ k. let never : ⊥ = omega (arith, k, c.requires.kind) in never) differs

@@ -1,8 +1,9 @@
-use Rattle.std.proofs.Common.{◌≡◌, false, IsTrue, length}
+use Rattle.std.proofs.Common.{◌≡◌, false, IsTrue, drop, length, map as each}
 use Rattle.devices.specs.Device.{files_of}
+use Rattle.packed_store.specs.Opening.{Surveys, listed}
 use Rattle.packed_store.specs.Place.{segment_of}
 use Rattle.packed_store.specs.Stored.{AllWritten}
-use Rattle.packed_store.specs.Survey.{shown_in}
+use Rattle.packed_store.specs.Survey.{Shown, shown_in}
 use Rattle.packed_store.proofs.survey.survey.Given as goal
 
 abbrev pub invariant-loop-called : goal.invariant-loop-called
@@ -12,3 +13,6 @@ invariant-loop-called g l = (g.D.Device.honest l.device ≡ g.D.Device.honest l.
     × (IsTrue (g.D.Device.honest l.fn.device)
     → AllWritten (files_of (g.D.Device.past l.fn.device)) (shown_in l.fn.found.live.entries l.fn.found.pending.entries)
     → AllWritten (files_of (g.D.Device.past l.fn.device)) (shown_in l.found.live.entries l.found.pending.entries))
+    × (IsTrue (g.D.Device.honest l.fn.device)
+    → (last : Shown) → Surveys (files_of (g.D.Device.past l.fn.device)) (each (λ called. called.items) (drop l.called-index l.called-items)) (shown_in l.found.live.entries l.found.pending.entries) last
+    → Surveys (files_of (g.D.Device.past l.fn.device)) (listed (files_of (g.D.Device.past l.fn.device))) (shown_in l.fn.found.live.entries l.fn.found.pending.entries) last)

@@ -1,11 +1,14 @@
-use Rattle.std.proofs.Common.{◌≡◌, IsTrue, true, option_map, sym, subst, ◌∙◌, ap}
+use Rattle.std.proofs.Common.{◌≡◌, Bool, IsTrue, true, option_map, sym, subst, ◌∙◌, ap}
 use Rattle.devices.specs.Device.{Files, files_of}
 use Rattle.packed_store.specs.Place.{AreRecorded, Index, bytes_at, index_of}
 use Rattle.packed_store.specs.Stored.{AllWritten, AreWritten}
 use Rattle.std.specs.FinMap.{get}
 use Rattle.packed_store.proofs.ContentLemmas.{found_at}
 use Rattle.packed_store.proofs.StoredLemmas.{all_recorded, nothing_written, opened_written, shown_written}
-use Rattle.packed_store.specs.Survey.{opened, shown_in}
+use Rattle.git_name.specs.Maps.{map_values}
+use Rattle.packed_store.specs.Contents.{contents_in}
+use Rattle.packed_store.specs.Opening.{Surveys, listed}
+use Rattle.packed_store.specs.Survey.{Shown, opened, shown_in}
 use Rattle.packed_store.proofs.segments.Segments.resumed.Goals as goal
 
 pub invariant_of-result : goal.invariant_of-result
@@ -32,3 +35,19 @@ returns-clause-shows g c first name bytes shows =
     let written : AreWritten files index = subst (λ (i : Index). AreWritten files i) (sym c.in_ok-undo.ensures.live) (opened_written files shown all) in
     shown_written files index name bytes written
     (sym (ap (λ (f : Files). option_map (bytes_at f) (get index name)) same) ∙ sym (found_at (g.D.Device.honest log.device) (g.D.Device.past log.device) index name honest) ∙ shows)
+
+pub returns-clause-exact : goal.returns-clause-exact
+returns-clause-exact g c first =
+    let files = files_of (g.D.Device.past c.args.device) in
+    let log = c.in_ok-log.log in
+    let index = index_of c.undo.new.self.live.entries in
+    let shown = shown_in c.survey.new.found.live.entries c.survey.new.found.pending.entries in
+    let same : files_of (g.D.Device.past log.device) ≡ files = ap (λ d. files_of (g.D.Device.past d)) c.in_ok-log.ensures ∙ ap files_of (c.survey.ensures.past first) in
+    let honest : g.D.Device.honest log.device ≡ true = ap g.D.Device.honest c.in_ok-log.ensures ∙ c.survey.ensures.honest ∙ first in
+    record {
+      shown = shown;
+      surveys = subst (λ (old : Shown). Surveys files (listed files) old shown) c.new-found.ensures (c.in_ok-extent.ensures.surveys first);
+      shows =
+          ap (λ (d : Bool). contents_in d (g.D.Device.past log.device) index) honest ∙ ap (λ (f : Files). map_values (bytes_at f) index) same
+          ∙ ap (map_values (bytes_at files)) c.in_ok-undo.ensures.live;
+    }

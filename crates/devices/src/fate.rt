@@ -1,0 +1,12 @@
+/// What a loss of power does to one effect of a device, if it was not synced.
+#[derive(Clone, Copy, Debug, PartialEq, Eq)]
+pub struct Fate {
+    /// Whether the change of names stays.
+    pub is_kept: bool,
+    /// How many of the bytes that were written stay, from the front: all, if there are not so many.
+    pub bytes: usize,
+    /// How many bytes come after these in a file that the effect made.
+    pub others: usize,
+    /// What these are.
+    pub other: u8,
+}

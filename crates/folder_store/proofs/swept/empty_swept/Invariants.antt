@@ -1,0 +1,16 @@
+use Rattle.std.proofs.Common.{◌≡◌, ℕ, List, None, false, true, drop, IsTrue}
+use Rattle.std.specs.FinMap as map
+use Rattle.devices.specs.Device.{files_of}
+use Rattle.git_name.specs.Name.{IsName}
+use Rattle.git_name.specs.Same.{is_one_of}
+use Rattle.folder_store.specs.Contents.{contents_in}
+use Rattle.folder_store.specs.Lasting.{ForgetsFiles}
+use Rattle.folder_store.specs.Place.{swept_of}
+use Rattle.folder_store.proofs.swept.empty_swept.Given as goal
+
+-- no object's file changes, and if all removals worked so far, the names of the swept files that are left are among those to come
+abbrev pub invariant-loop-name : goal.invariant-loop-name
+invariant-loop-name g l =
+    (g.D.Device.honest l.device ≡ g.D.Device.honest l.fn.device) × (contents_in (g.D.Device.honest l.device) (g.D.Device.past l.device) ≡ contents_in (g.D.Device.honest l.fn.device) (g.D.Device.past l.fn.device))
+    × (IsTrue (g.D.Device.honest l.fn.device) → ForgetsFiles (g.D.Device.past l.fn.device) (g.D.Device.past l.device))
+    × (IsTrue (g.D.Device.honest l.fn.device) → l.is_empty ≡ true → (q : List ℕ) → IsName q → is_one_of (drop l.name-index l.name-items) q ≡ false → map.get (files_of (g.D.Device.past l.device)) (swept_of q) ≡ None)

@@ -1,7 +1,0 @@
-use Rattle.loose_store.specs.Calls.{Reads, standing}
-use Rattle.loose_store.proofs.StandingLemmas.{call_none}
-use Rattle.loose_store.proofs.folder.FolderLooseFiles.get.Goals as goal
-
-pub returns-clause-call : goal.returns-clause-call
-returns-clause-call g c honest =
-    call_none Reads _ _ (λ i. standing (c.read_file-answer.ensures.past honest i) c.args.self.now.has_swept c.args.self.now.unsynced.has_failed)

@@ -1,5 +1,0 @@
-use Rattle.loose_store.proofs.SyncLemmas.{all_false}
-use Rattle.loose_store.proofs.unsynced.Unsynced.new.Goals as goal
-
-pub returns-clause-homes : goal.returns-clause-homes
-returns-clause-homes c first = all_false 256 first

@@ -1,8 +1,0 @@
-use Rattle.devices.specs.Device.{SyncedFile}
-use Rattle.loose_store.proofs.SyncLemmas.{only_sync}
-use Rattle.loose_store.proofs.unsynced.Unsynced.sync_part.Goals as goal
-
-pub returns-clause-only : goal.returns-clause-only
-returns-clause-only g c honest unfailed =
-    only_sync c.args.self.now.has_failed c.was_synced.new.self.has_failed (SyncedFile c.args.part.now) tt c.sync_bytes-synced.result (g.D.Device.past c.args.device.now) (g.D.Device.past c.sync_bytes-synced.new.device)
-    c.was_synced.ensures.failed unfailed (c.sync_bytes-synced.ensures.effect honest) (c.sync_bytes-synced.ensures.untried honest)

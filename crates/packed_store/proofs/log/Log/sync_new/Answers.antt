@@ -1,0 +1,41 @@
+use Rattle.std.proofs.Common.{rules, codes, refl, ◌+◌, sym, ◌∙◌}
+use Rattle.packed_store.proofs.LastingLemmas.{all_after, names_later}
+use Rattle.packed_store.proofs.log.Log.sync_new.Goals as goal
+
+pub invariant_of-self : goal.invariant_of-self
+invariant_of-self g c =
+    let log = c.args.self.now in
+    record {
+      path_is = search rules;
+      end_is = search rules;
+      numbered = search rules;
+      order = search rules;
+      below = λ honest.
+          let then = sym c.sync_folders.ensures.honest ∙ honest in
+          all_after (g.D.Device.past log.device) (g.D.Device.past c.sync_folders.new.device) log.first log.unsynced (c.sync_folders.ensures.narrows then) (log.below then);
+      clean = λ clean honest.
+          let then = sym c.sync_folders.ensures.honest ∙ honest in
+          all_after (g.D.Device.past log.device) (g.D.Device.past c.sync_folders.new.device) log.first (log.segment + 1) (c.sync_folders.ensures.narrows then) (log.clean clean then);
+      known = search rules;
+      named = λ named honest.
+          let then = sym c.sync_folders.ensures.honest ∙ honest in
+          names_later (codes "segments/") (g.D.Device.past log.device) (g.D.Device.past c.sync_folders.new.device) (c.sync_folders.ensures.narrows then) (log.named named then);
+    }
+
+pub invariant_of-self-2 : goal.invariant_of-self-2
+invariant_of-self-2 g c =
+    let log = c.args.self.now in
+    record {
+      path_is = search rules;
+      end_is = search rules;
+      numbered = search rules;
+      order = search rules;
+      below = λ honest.
+          let then = sym c.sync_folders.ensures.honest ∙ honest in
+          all_after (g.D.Device.past log.device) (g.D.Device.past c.sync_folders.new.device) log.first log.unsynced (c.sync_folders.ensures.narrows then) (log.below then);
+      clean = λ clean honest.
+          let then = sym c.sync_folders.ensures.honest ∙ honest in
+          all_after (g.D.Device.past log.device) (g.D.Device.past c.sync_folders.new.device) log.first (log.segment + 1) (c.sync_folders.ensures.narrows then) (log.clean clean then);
+      known = λ clean. refl;
+      named = λ named honest. c.in_ok-sync_folders.ensures.sure (sym c.sync_folders.ensures.honest ∙ honest);
+    }

@@ -17,7 +17,7 @@ from lib.live import Serving
 from lib.objects import record
 from lib.pages import block, commands
 from lib.program import done
-from lib.waiting import PATIENCE, until
+from lib.waiting import PATIENCE
 
 TENANTS = ["alice=400000", "bob=400000"]
 INITS = [(b"alice", b"init q\n"), (b"alice", b"init r\n"), (b"bob", b"init r\n")]
@@ -76,8 +76,8 @@ class Busy:
         else:
             reader.close()
             stream.close()
-            # What was swept is let go when the state is saved.
-            until(lambda: self.folder.swept() == [])
+            # The next connection is served once the state is saved, if it is, and what was swept is let go.
+            self.serving.told(frame(b"bob", b"quota\n"))
 
     def some(self):
         """A few random requests, with slices of sweeps between."""

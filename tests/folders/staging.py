@@ -172,7 +172,7 @@ def show_memory(checks, program, work):
 def show_unreadable(checks, program, work):
     """While an open upload cannot be read no state is saved, and everybody is served; once it can be, it is saved again."""
     folder, path = Folder(os.path.join(work, "kept")), os.path.join(work, "socket")
-    serving = Serving(program, path, 6, "--dir", folder.path, "alice=10000", "bob=10000000")
+    serving = Serving(program, path, 7, "--dir", folder.path, "alice=10000", "bob=10000000")
     ok = framed(b"ok\n")
     sent = frames([(ALICE, b"init r\n"), (ALICE, b"part\n" + BODY), (BOB, b"init r\n")])
     checks.same("an upload", ok * 3, serving.told(sent))
@@ -184,7 +184,8 @@ def show_unreadable(checks, program, work):
     checks.same("the state stays, however long the journal is", (state, True), (folder.state(), len(folder.journal()) > MIB))
     checks.same("what was pushed", framed(b"ok\n" + large[0]), serving.told(frame(BOB, b"cat-file " + large[0][:64] + b"\n")))
     folder.flip(D)
-    checks.same("one push more", ok, serving.told(frame(BOB, b"push r\n\n" + large[2])))
+    for number, text in enumerate(large[2:]):
+        checks.same(f"a push of 1 MiB more, {number}", ok, serving.told(frame(BOB, b"push r\n\n" + text)))
     checks.same("the upload's end", ok, serving.told(frame(ALICE, b"part-end r\n")))
     checks.same("it was saved before that", False, folder.state() == state)
     checks.same("the end", done(), serving.ended())

@@ -40,22 +40,18 @@ pub trait Device {
     ghost honest: { Self → Bool };
 
     /// The bytes of a file, if it exists. If there are more than `most`, none of them is read.
-    fn read(&mut self, alloc: Global, path: &str, most: u64) -> Result<Option<Vec<u8>>, DeviceFault>
-        ensures found { IsTrue (honest self.old) → IfOk result (λ found. option_map (λ bytes. bytes.items) found ≡ option_map (within most) (map.get (files_of (past self.old)) path.now)) }
-        ensures kept { IsTrue (honest self.old) → past self.new ≡ past self.old }
-        ensures honest { honest self.new ≡ honest self.old };
+    fn read(&self, alloc: Global, path: &str, most: u64) -> Result<Option<Vec<u8>>, DeviceFault>
+        ensures { IsTrue (honest self.now) → IfOk result (λ found. option_map (λ bytes. bytes.items) found ≡ option_map (within most) (map.get (files_of (past self.now)) path.now)) };
 
     /// A part of a file: so many bytes from a place on. `None` if it does not exist or has fewer bytes.
     fn read_part(
-        &mut self,
+        &self,
         alloc: Global,
         path: &str,
         at: u64,
         len: usize,
     ) -> Result<Option<Vec<u8>>, DeviceFault>
-        ensures found { IsTrue (honest self.old) → IfOk result (λ found. option_map (λ bytes. bytes.items) found ≡ option_and_then (part_of at len) (map.get (files_of (past self.old)) path.now)) }
-        ensures kept { IsTrue (honest self.old) → past self.new ≡ past self.old }
-        ensures honest { honest self.new ≡ honest self.old };
+        ensures { IsTrue (honest self.now) → IfOk result (λ found. option_map (λ bytes. bytes.items) found ≡ option_and_then (part_of at len) (map.get (files_of (past self.now)) path.now)) };
 
     /// Writes a whole file, replacing one at this path. Call it only if no change of the replaced file's path is unsynced: a
     /// system may empty that file in place of making a new one.
@@ -81,10 +77,8 @@ pub trait Device {
         ensures honest { honest self.new ≡ honest self.old };
 
     /// The names of the files right in a folder, ascending bytewise.
-    fn list(&mut self, alloc: Global, folder: &str) -> Result<Vec<Vec<u8>>, DeviceFault>
-        ensures found { IsTrue (honest self.old) → IfOk result (λ names. each (λ name. name.items) names.items ≡ names_in_folder folder.now (map.keys (files_of (past self.old)))) }
-        ensures kept { IsTrue (honest self.old) → past self.new ≡ past self.old }
-        ensures honest { honest self.new ≡ honest self.old };
+    fn list(&self, alloc: Global, folder: &str) -> Result<Vec<Vec<u8>>, DeviceFault>
+        ensures { IsTrue (honest self.now) → IfOk result (λ names. each (λ name. name.items) names.items ≡ names_in_folder folder.now (map.keys (files_of (past self.now)))) };
 
     /// Syncs the bytes of a file, if it exists. After `Device` the system
     /// may have dropped what it could not write, and a later sync of the file does not report that.

@@ -8,7 +8,7 @@ impl<D: Device> Device for &mut D {
     ghost honest = { λ device. D.honest device.now };
 
     fn read(
-        &mut self,
+        &self,
         alloc: Global,
         path: &str,
         most: u64,
@@ -17,7 +17,7 @@ impl<D: Device> Device for &mut D {
     }
 
     fn read_part(
-        &mut self,
+        &self,
         alloc: Global,
         path: &str,
         at: u64,
@@ -42,7 +42,7 @@ impl<D: Device> Device for &mut D {
         (**self).remove(path)
     }
 
-    fn list(&mut self, alloc: Global, folder: &str) -> Result<Vec<Vec<u8>>, DeviceFault> {
+    fn list(&self, alloc: Global, folder: &str) -> Result<Vec<Vec<u8>>, DeviceFault> {
         (**self).list(alloc, folder)
     }
 

@@ -11,6 +11,7 @@ use crate::note::Note;
 use crate::text::Text;
 use crate::tree::Tree;
 use std::alloc::{AllocError, Global};
+use std::cell::Cell;
 
 /// Files in memory, and the list of all that was done to them. It can be made to fail.
 #[derive(Drop)]
@@ -21,23 +22,18 @@ pub struct Memory {
     files: Tree,
     notes: Vec<Note>,
     // How many calls pass before one fails, if one shall.
-    passing: Option<u64>,
+    passing: Cell<Option<u64>>,
     ghost make: { Make base notes.items files },
 }
 
 // Whether this call fails. Counts it off.
-fn fails(passing: &mut Option<u64>) -> bool {
-    match *passing {
-        None => false,
-        Some(0) => {
-            *passing = None;
-            true
-        }
-        Some(left) => {
-            *passing = Some(left - 1);
-            false
-        }
-    }
+fn fails(passing: &Cell<Option<u64>>) -> bool {
+    let left = passing.get();
+    passing.set(match left {
+        Some(count) => count.checked_sub(1),
+        None => None,
+    });
+    left == Some(0)
 }
 
 // Adds a note before the others.
@@ -167,7 +163,7 @@ impl Memory {
             base: Tree::new(alloc),
             files: Tree::new(alloc),
             notes: Vec::new(alloc),
-            passing: None,
+            passing: Cell::new(None),
         }
     }
 
@@ -176,7 +172,7 @@ impl Memory {
         ensures notes { self.new.notes ≡ self.old.notes }
         ensures base { self.new.base ≡ self.old.base }
     {
-        self.passing = Some(passing);
+        self.passing.set(Some(passing));
     }
 
     /// The device that a loss of power leaves of this one. The fate at each place is that of one effect, from the oldest
@@ -192,7 +188,7 @@ impl Memory {
             base,
             files,
             notes: Vec::new(self.alloc),
-            passing: None,
+            passing: Cell::new(None),
         })
     }
 }
@@ -203,12 +199,12 @@ impl Device for Memory {
     ghost honest = { λ _. true };
 
     fn read(
-        &mut self,
+        &self,
         alloc: Global,
         path: &str,
         most: u64,
     ) -> Result<Option<Vec<u8>>, DeviceFault> {
-        if fails(&mut self.passing) {
+        if fails(&self.passing) {
             return Err(DeviceFault::Device);
         }
         let path = Text::new(self.alloc, path.as_bytes())?;
@@ -216,13 +212,13 @@ impl Device for Memory {
     }
 
     fn read_part(
-        &mut self,
+        &self,
         alloc: Global,
         path: &str,
         at: u64,
         len: usize,
     ) -> Result<Option<Vec<u8>>, DeviceFault> {
-        if fails(&mut self.passing) {
+        if fails(&self.passing) {
             return Err(DeviceFault::Device);
         }
         let path = Text::new(self.alloc, path.as_bytes())?;
@@ -230,7 +226,7 @@ impl Device for Memory {
     }
 
     fn write(&mut self, path: &str, bytes: &[u8]) -> Result<(), DeviceFault> {
-        if fails(&mut self.passing) {
+        if fails(&self.passing) {
             return Err(DeviceFault::Device);
         }
         let path_noted = Text::new(self.alloc, path.as_bytes())?;
@@ -242,7 +238,7 @@ impl Device for Memory {
     }
 
     fn append(&mut self, path: &str, bytes: &[u8]) -> Result<(), DeviceFault> {
-        if fails(&mut self.passing) {
+        if fails(&self.passing) {
             return Err(DeviceFault::Device);
         }
         let path_noted = Text::new(self.alloc, path.as_bytes())?;
@@ -254,7 +250,7 @@ impl Device for Memory {
     }
 
     fn rename(&mut self, from: &str, to: &str) -> Result<bool, DeviceFault> {
-        if fails(&mut self.passing) {
+        if fails(&self.passing) {
             return Err(DeviceFault::Device);
         }
         let from_noted = Text::new(self.alloc, from.as_bytes())?;
@@ -277,7 +273,7 @@ impl Device for Memory {
     }
 
     fn remove(&mut self, path: &str) -> Result<(), DeviceFault> {
-        if fails(&mut self.passing) {
+        if fails(&self.passing) {
             return Err(DeviceFault::Device);
         }
         let noted = Text::new(self.alloc, path.as_bytes())?;
@@ -287,8 +283,8 @@ impl Device for Memory {
         Ok(())
     }
 
-    fn list(&mut self, alloc: Global, folder: &str) -> Result<Vec<Vec<u8>>, DeviceFault> {
-        if fails(&mut self.passing) {
+    fn list(&self, alloc: Global, folder: &str) -> Result<Vec<Vec<u8>>, DeviceFault> {
+        if fails(&self.passing) {
             return Err(DeviceFault::Device);
         }
         Ok(self.files.list(alloc, folder.as_bytes())?)
@@ -296,7 +292,7 @@ impl Device for Memory {
 
     fn sync_file(&mut self, path: &str) -> Result<(), DeviceFault> {
         let path = Text::new(self.alloc, path.as_bytes())?;
-        if fails(&mut self.passing) {
+        if fails(&self.passing) {
             add(&mut self.notes, Note::FailFile(path))?;
             return Err(DeviceFault::Device);
         }
@@ -305,7 +301,7 @@ impl Device for Memory {
 
     fn sync_folder(&mut self, folder: &str) -> Result<(), DeviceFault> {
         let folder = Text::new(self.alloc, folder.as_bytes())?;
-        if fails(&mut self.passing) {
+        if fails(&self.passing) {
             add(&mut self.notes, Note::FailFolder(folder))?;
             return Err(DeviceFault::Device);
         }

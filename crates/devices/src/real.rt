@@ -3,8 +3,11 @@ ghost use Rattle.std.specs.FinMap as map;
 
 use crate::device::{Device, DeviceFault};
 use crate::opened::{Opened, taken};
-use crate::std_files::{create_folder, found, open_file, open_lock, read_all, readable, regular};
+use crate::std_files::{
+    create_folder, found, is_missing, open_file, open_lock, read_all, readable, regular,
+};
 use std::alloc::Global;
+use std::cell::Cell;
 use std::fs::{File, OpenFile};
 use std::io::{ErrorKind, Write};
 use std::os::unix::fs::FileExt;
@@ -21,7 +24,7 @@ pub struct Real<R> {
     folder: String,
     lock: File,
     // The file of which a part was read last, and the one that was appended to last, unless a path was changed since.
-    reading: Option<Opened>,
+    reading: Cell<Option<Opened>>,
     appending: Option<Opened>,
 }
 
@@ -61,7 +64,7 @@ impl<R: Files<File = File> + Drop> Real<R> {
             alloc,
             folder,
             lock,
-            reading: None,
+            reading: Cell::new(None),
             appending: None,
         })
     }
@@ -103,13 +106,14 @@ impl<R: Files<File = File> + Drop> Real<R> {
 
     // Nothing if it is not a regular file, or is shorter.
     fn read_part_in(
-        &mut self,
+        &self,
         alloc: Global,
         path: &str,
         at: u64,
         len: usize,
     ) -> io::Result<Option<Vec<u8>>> {
-        let opened = match taken(&mut self.reading, path) {
+        let mut reading = self.reading.take();
+        let opened = match taken(&mut reading, path) {
             Some(opened) => Some(opened),
             None => self.open_to_read(path)?,
         };
@@ -121,24 +125,26 @@ impl<R: Files<File = File> + Drop> Real<R> {
         }
         let mut bytes = vec![in alloc; 0; len]?;
         opened.file.read_exact_at(bytes.as_mut_slice(), at)?;
-        self.reading = Some(opened);
+        self.reading.set(Some(opened));
         Ok(Some(bytes))
     }
 
     // Closes the files that stay open, since a path may lead to another file from now on.
     fn close(&mut self) {
-        self.reading = None;
+        self.reading.set(None);
         self.appending = None;
     }
 
     // Opens a file to write it anew or after its end. Creates its folder if somebody removed that.
     fn open_to_write(&self, path: &str, is_append: bool) -> io::Result<File> {
         let path = self.path(path)?;
-        if let Some(file) = found(open_file(&self.rt, path.as_str(), is_append))? {
-            return Ok(file);
+        match open_file(&self.rt, path.as_str(), is_append) {
+            Err(error) if is_missing(&error) => {
+                self.create_home(path.as_str())?;
+                open_file(&self.rt, path.as_str(), is_append)
+            }
+            opened => opened,
         }
-        self.create_home(path.as_str())?;
-        open_file(&self.rt, path.as_str(), is_append)
     }
 
     // Opens a regular file to write after its end, or creates it.
@@ -167,8 +173,10 @@ impl<R: Files<File = File> + Drop> Real<R> {
     fn rename_in(&self, from: &str, to: &str) -> io::Result<bool> {
         let from = self.path(from)?;
         let to = self.path(to)?;
-        if found(fs::rename(&self.rt, from.as_str(), to.as_str()))?.is_some() {
-            return Ok(true);
+        match fs::rename(&self.rt, from.as_str(), to.as_str()) {
+            Ok(()) => return Ok(true),
+            Err(error) if is_missing(&error) => {}
+            Err(error) => return Err(error),
         }
         if found(fs::symlink_metadata(&self.rt, from.as_str()))?.is_none() {
             return Ok(false);
@@ -261,7 +269,7 @@ impl<R: Files<File = File> + AllocGlobal + Clone + Drop> Device for Real<R> {
     ghost honest = { λ _. false };
 
     fn read(
-        &mut self,
+        &self,
         alloc: Global,
         path: &str,
         most: u64,
@@ -270,7 +278,7 @@ impl<R: Files<File = File> + AllocGlobal + Clone + Drop> Device for Real<R> {
     }
 
     fn read_part(
-        &mut self,
+        &self,
         alloc: Global,
         path: &str,
         at: u64,
@@ -301,7 +309,7 @@ impl<R: Files<File = File> + AllocGlobal + Clone + Drop> Device for Real<R> {
         told(self.remove_in(path))
     }
 
-    fn list(&mut self, alloc: Global, folder: &str) -> Result<Vec<Vec<u8>>, DeviceFault> {
+    fn list(&self, alloc: Global, folder: &str) -> Result<Vec<Vec<u8>>, DeviceFault> {
         told(self.list_in(alloc, folder))
     }
 

@@ -13,16 +13,22 @@ const FILE_MODE: u32 = 0o600;
 // A folder: the owner reads, writes and searches.
 const FOLDER_MODE: u32 = 0o700;
 
+/// Whether the file does not exist, or its parent is not a folder.
+pub(crate) fn is_missing(error: &io::Error) -> bool {
+    matches!(
+        error.kind(),
+        ErrorKind::NotFound | ErrorKind::NotADirectory
+    )
+}
+
 /// The answer, or `None` if the file does not exist or its parent is not a folder.
 pub fn found<T: Drop>(answer: io::Result<T>) -> io::Result<Option<T>>
     ensures { IfOk answer (λ value. result ≡ Ok (Some value)) }
 {
     match answer {
         Ok(value) => Ok(Some(value)),
-        Err(error) => match error.kind() {
-            ErrorKind::NotFound | ErrorKind::NotADirectory => Ok(None),
-            _ => Err(error),
-        },
+        Err(error) if is_missing(&error) => Ok(None),
+        Err(error) => Err(error),
     }
 }
 

@@ -154,7 +154,7 @@ impl<D: Device> LooseFiles for Folder<D> {
         ensures honest { D.honest self.new.device ≡ D.honest self.old.device }
         ensures cause { Counts self.old.failures self.new.failures result }
     {
-        let answer = read_file(&mut self.device, alloc, name);
+        let answer = read_file(&self.device, alloc, name);
         answered(&mut self.failures, answer)
     }
 
@@ -202,7 +202,7 @@ impl<D: Device> LooseFiles for Folder<D> {
         ensures cause { Counts self.old.failures self.new.failures result }
         ensures call { IsTrue (D.honest self.old.device) → Calls Reads (standing (D.past self.old.device) self.old.has_swept self.old.unsynced.has_failed) (standing (D.past self.new.device) self.new.has_swept self.new.unsynced.has_failed) }
     {
-        let answer = list_all(&mut self.device, alloc);
+        let answer = list_all(&self.device, alloc);
         answered(&mut self.failures, answer)
     }
 

@@ -4,7 +4,6 @@ ghost use Rattle.devices.specs.Device.{files_of};
 ghost use Rattle.folder_store.specs.Contents.{contents_in};
 ghost use Rattle.folder_store.specs.Listing.{names_at, names_below, names_called, one_or_none};
 
-use crate::object_file::list_folder;
 use crate::place::{home_of, name_at};
 use devices::{Device, DeviceFault};
 use git_name::Name;
@@ -33,29 +32,23 @@ fn add_names(front: &[u8], listing: &[Vec<u8>], names: &mut Vec<Name>) -> Result
 
 // Adds the names that begin with this byte.
 fn list_home<D: Device>(
-    device: &mut D,
+    device: &D,
     alloc: Global,
     first: u8,
     names: &mut Vec<Name>,
 ) -> Result<(), DeviceFault>
-    ensures found { IsTrue (D.honest device.old) → OnOk result (names.new.items ≡ names.old.items ++ names_at first (map.keys (files_of (D.past device.old)))) }
-    ensures past { IsTrue (D.honest device.old) → D.past device.new ≡ D.past device.old }
-    ensures kept { contents_in (D.honest device.new) (D.past device.new) ≡ contents_in (D.honest device.old) (D.past device.old) }
-    ensures honest { D.honest device.new ≡ D.honest device.old }
+    ensures { IsTrue (D.honest device.now) → OnOk result (names.new.items ≡ names.old.items ++ names_at first (map.keys (files_of (D.past device.now)))) }
 {
     let first = [first];
     let home = home_of(alloc, first.as_slice())?;
     let front = hex::encode(alloc, first.as_slice())?;
-    let listing = list_folder(device, alloc, home.as_str())?;
+    let listing = device.list(alloc, home.as_str())?;
     Ok(add_names(front.as_bytes(), listing.as_slice(), names)?)
 }
 
 // The names of all files of objects, home by home.
-fn list_homes<D: Device>(device: &mut D, alloc: Global) -> Result<Vec<Name>, DeviceFault>
-    ensures found { IsTrue (D.honest device.old) → IfOk result (λ names. names.items ≡ names_below 256 (map.keys (files_of (D.past device.old)))) }
-    ensures past { IsTrue (D.honest device.old) → D.past device.new ≡ D.past device.old }
-    ensures kept { contents_in (D.honest device.new) (D.past device.new) ≡ contents_in (D.honest device.old) (D.past device.old) }
-    ensures honest { D.honest device.new ≡ D.honest device.old }
+fn list_homes<D: Device>(device: &D, alloc: Global) -> Result<Vec<Name>, DeviceFault>
+    ensures { IsTrue (D.honest device.now) → IfOk result (λ names. names.items ≡ names_below 256 (map.keys (files_of (D.past device.now)))) }
 {
     let mut names = Vec::new(alloc);
     for first in 0..256u64 {
@@ -65,11 +58,8 @@ fn list_homes<D: Device>(device: &mut D, alloc: Global) -> Result<Vec<Name>, Dev
 }
 
 /// The names of all files of objects, ascending. Files with other names are ignored.
-pub(crate) fn list_all<D: Device>(device: &mut D, alloc: Global) -> Result<Vec<Name>, DeviceFault>
-    ensures found { IsTrue (D.honest device.old) → IfOk result (λ names. names.items ≡ map.keys (contents_in (D.honest device.old) (D.past device.old))) }
-    ensures past { IsTrue (D.honest device.old) → D.past device.new ≡ D.past device.old }
-    ensures kept { contents_in (D.honest device.new) (D.past device.new) ≡ contents_in (D.honest device.old) (D.past device.old) }
-    ensures honest { D.honest device.new ≡ D.honest device.old }
+pub(crate) fn list_all<D: Device>(device: &D, alloc: Global) -> Result<Vec<Name>, DeviceFault>
+    ensures { IsTrue (D.honest device.now) → IfOk result (λ names. names.items ≡ map.keys (contents_in (D.honest device.now) (D.past device.now))) }
 {
     let mut names = list_homes(device, alloc)?;
     names.sort_unstable();

@@ -1,7 +1,7 @@
 // The files of objects, over a device.
-ghost use Rattle.std.specs.Prelude.{◌≡◌, ◌∷◌, [], ℕ, List, IsTrue, IfOk, OnOk, Some, None, map as each, option_map};
+ghost use Rattle.std.specs.Prelude.{◌≡◌, ◌∷◌, [], ℕ, List, IsTrue, IfOk, OnOk, Some, None, option_map};
 ghost use Rattle.std.specs.FinMap as map;
-ghost use Rattle.devices.specs.Device.{Does, Wrote, Moved, Removed, SyncedFile, SyncedFolder, Untried, files_of, names_in_folder};
+ghost use Rattle.devices.specs.Device.{Does, Wrote, Moved, Removed, SyncedFile, SyncedFolder, Untried, files_of};
 ghost use Rattle.devices.specs.Runs.{Runs};
 ghost use Rattle.folder_store.specs.Contents.{contents_in};
 ghost use Rattle.loose_store.specs.Files.{SameBut};
@@ -18,15 +18,12 @@ use std::alloc::Global;
 
 /// The file of a name, if it exists.
 pub(crate) fn read_file<D: Device>(
-    device: &mut D,
+    device: &D,
     alloc: Global,
     name: Name,
 ) -> Result<Option<Vec<u8>>, DeviceFault>
-    ensures found { IsTrue (D.honest device.old) → IfOk result (λ found. option_map (λ bytes. bytes.items) found ≡ map.get (contents_in (D.honest device.old) (D.past device.old)) name) }
+    ensures found { IsTrue (D.honest device.now) → IfOk result (λ found. option_map (λ bytes. bytes.items) found ≡ map.get (contents_in (D.honest device.now) (D.past device.now)) name) }
     ensures name { IsName name }
-    ensures past { IsTrue (D.honest device.old) → D.past device.new ≡ D.past device.old }
-    ensures kept { contents_in (D.honest device.new) (D.past device.new) ≡ contents_in (D.honest device.old) (D.past device.old) }
-    ensures honest { D.honest device.new ≡ D.honest device.old }
 {
     let path = path_of(alloc, name)?;
     device.read(alloc, path.as_str(), MAX_FILE)
@@ -89,14 +86,11 @@ pub(crate) fn put_file<D: Device>(
 
 /// Whether a file is at this path.
 pub(crate) fn is_there<D: Device>(
-    device: &mut D,
+    device: &D,
     alloc: Global,
     path: &str,
 ) -> Result<bool, DeviceFault>
-    ensures found { IsTrue (D.honest device.old) → IfOk result (λ is. is ≡ map.contains_key (files_of (D.past device.old)) path.now) }
-    ensures past { IsTrue (D.honest device.old) → D.past device.new ≡ D.past device.old }
-    ensures kept { contents_in (D.honest device.new) (D.past device.new) ≡ contents_in (D.honest device.old) (D.past device.old) }
-    ensures honest { D.honest device.new ≡ D.honest device.old }
+    ensures { IsTrue (D.honest device.now) → IfOk result (λ is. is ≡ map.contains_key (files_of (D.past device.now)) path.now) }
 {
     match device.read(alloc, path, 0) {
         Ok(Some(_)) => Ok(true),
@@ -154,18 +148,4 @@ pub(crate) fn sync_names<D: Device>(device: &mut D, folder: &str) -> Result<(), 
     ensures honest { D.honest device.new ≡ D.honest device.old }
 {
     device.sync_folder(folder)
-}
-
-/// The names of the files right in a folder, ascending.
-pub(crate) fn list_folder<D: Device>(
-    device: &mut D,
-    alloc: Global,
-    folder: &str,
-) -> Result<Vec<Vec<u8>>, DeviceFault>
-    ensures found { IsTrue (D.honest device.old) → IfOk result (λ names. each (λ name. name.items) names.items ≡ names_in_folder folder.now (map.keys (files_of (D.past device.old)))) }
-    ensures past { IsTrue (D.honest device.old) → D.past device.new ≡ D.past device.old }
-    ensures kept { contents_in (D.honest device.new) (D.past device.new) ≡ contents_in (D.honest device.old) (D.past device.old) }
-    ensures honest { D.honest device.new ≡ D.honest device.old }
-{
-    device.list(alloc, folder)
 }

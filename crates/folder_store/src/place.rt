@@ -23,13 +23,11 @@ pub(crate) fn home_of(alloc: Global, first: &[u8]) -> Result<String, AllocError>
     Ok(path)
 }
 
-// The path of a file in the folder for a name.
-fn beside(alloc: Global, name: Name, called: &str) -> Result<String, AllocError>
-    ensures { IfOk result (λ path. string_bytes path ≡ codes "objects/" ++ front_digits name ++ 47 ∷ called.now) }
+// The digits of a name that its file is called by: all but the first two.
+fn rest_of(alloc: Global, name: Name) -> Result<String, AllocError>
+    ensures { IfOk result (λ rest. string_bytes rest ≡ rest_digits name) }
 {
-    let mut path = home_of(alloc, &name.as_bytes()[..1])?;
-    path.push_str(called)?;
-    Ok(path)
+    hex::encode(alloc, &name.as_bytes()[1..])
 }
 
 /// The path of the file of a name.
@@ -37,15 +35,19 @@ pub(crate) fn path_of(alloc: Global, name: Name) -> Result<String, AllocError>
     ensures path { IfOk result (λ path. string_bytes path ≡ place_of name) }
     ensures name { IsName name }
 {
-    let rest = hex::encode(alloc, &name.as_bytes()[1..])?;
-    beside(alloc, name, rest.as_str())
+    let rest = rest_of(alloc, name)?;
+    let mut path = home_of(alloc, &name.as_bytes()[..1])?;
+    path.push_str(rest.as_str())?;
+    Ok(path)
 }
 
 /// The path of the file of a name while it is written.
 pub(crate) fn part_path(alloc: Global, name: Name) -> Result<String, AllocError>
     ensures { IfOk result (λ path. string_bytes path ≡ part_of name) }
 {
-    beside(alloc, name, PART)
+    let mut path = home_of(alloc, &name.as_bytes()[..1])?;
+    path.push_str(PART)?;
+    Ok(path)
 }
 
 /// The path of the swept file of a name.

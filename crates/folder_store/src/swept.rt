@@ -10,7 +10,7 @@ ghost use Rattle.folder_store.specs.Place.{home_with, place_of, swept_of};
 ghost use Rattle.folder_store.specs.Swept.{IsOpened, is_whole as whole, steps_back};
 
 use crate::listing::add_name;
-use crate::object_file::{list_folder, read_file, remove_other};
+use crate::object_file::{read_file, remove_other};
 use crate::place::{home_of, path_of, swept_path};
 use devices::{Device, DeviceFault};
 use git_name::Name;
@@ -31,14 +31,11 @@ fn add_spelled(listing: &[Vec<u8>], names: &mut Vec<Name>) -> Result<(), AllocEr
 }
 
 // The names of the swept files. Files with other names are ignored.
-fn swept_names<D: Device>(device: &mut D, alloc: Global) -> Result<Vec<Name>, DeviceFault>
-    ensures found { IsTrue (D.honest device.old) → IfOk result (λ names. names.items ≡ names_swept (map.keys (files_of (D.past device.old)))) }
-    ensures past { IsTrue (D.honest device.old) → D.past device.new ≡ D.past device.old }
-    ensures kept { contents_in (D.honest device.new) (D.past device.new) ≡ contents_in (D.honest device.old) (D.past device.old) }
-    ensures honest { D.honest device.new ≡ D.honest device.old }
+fn swept_names<D: Device>(device: &D, alloc: Global) -> Result<Vec<Name>, DeviceFault>
+    ensures { IsTrue (D.honest device.now) → IfOk result (λ names. names.items ≡ names_swept (map.keys (files_of (D.past device.now)))) }
 {
     let mut names = Vec::new(alloc);
-    let listing = list_folder(device, alloc, SWEPT)?;
+    let listing = device.list(alloc, SWEPT)?;
     add_spelled(listing.as_slice(), &mut names)?;
     Ok(names)
 }
@@ -51,11 +48,9 @@ fn is_whole(bytes: &[u8], name: Name) -> bool
 }
 
 // Whether the whole file of a name is at its place. One that cannot be read may be whole, so that is a fault.
-fn has_whole<D: Device>(device: &mut D, alloc: Global, name: Name) -> Result<bool, DeviceFault>
-    ensures whole { IsTrue (D.honest device.old) → IfOk result (λ is. is ≡ whole name (map.get (contents_of (files_of (D.past device.old))) name)) }
+fn has_whole<D: Device>(device: &D, alloc: Global, name: Name) -> Result<bool, DeviceFault>
+    ensures whole { IsTrue (D.honest device.now) → IfOk result (λ is. is ≡ whole name (map.get (contents_of (files_of (D.past device.now))) name)) }
     ensures name { IsName name }
-    ensures past { IsTrue (D.honest device.old) → D.past device.new ≡ D.past device.old }
-    ensures honest { D.honest device.new ≡ D.honest device.old }
 {
     let Some(bytes) = read_file(device, alloc, name)? else {
         return Ok(false);

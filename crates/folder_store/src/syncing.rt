@@ -6,7 +6,7 @@ ghost use Rattle.folder_store.specs.Contents.{contents_in};
 ghost use Rattle.folder_store.specs.Place.{place_of};
 ghost use Rattle.folder_store.specs.Synced.{SyncsHome};
 
-use crate::object_file::{list_folder, sync_bytes, sync_names};
+use crate::object_file::{sync_bytes, sync_names};
 use crate::place::{home_of, path_of};
 use devices::{Device, DeviceFault};
 use git_name::Name;
@@ -28,13 +28,10 @@ pub(crate) fn sync_object<D: Device>(
 }
 
 // Succeeds if no file is in a folder.
-fn require_empty<D: Device>(device: &mut D, alloc: Global, folder: &str) -> Result<(), DeviceFault>
-    ensures none { IsTrue (D.honest device.old) → OnOk result (names_in_folder folder.now (map.keys (files_of (D.past device.old))) ≡ []) }
-    ensures past { IsTrue (D.honest device.old) → D.past device.new ≡ D.past device.old }
-    ensures kept { contents_in (D.honest device.new) (D.past device.new) ≡ contents_in (D.honest device.old) (D.past device.old) }
-    ensures honest { D.honest device.new ≡ D.honest device.old }
+fn require_empty<D: Device>(device: &D, alloc: Global, folder: &str) -> Result<(), DeviceFault>
+    ensures { IsTrue (D.honest device.now) → OnOk result (names_in_folder folder.now (map.keys (files_of (D.past device.now))) ≡ []) }
 {
-    let listing = list_folder(device, alloc, folder)?;
+    let listing = device.list(alloc, folder)?;
     if listing.is_empty() {
         return Ok(());
     }

@@ -16,14 +16,14 @@ ghost use Rattle.fork_model.specs.Answer.{Finished, pushed};
 ghost use Rattle.fork_model.specs.View.{View};
 ghost use Rattle.fork_host.specs.Bounds.{IsBounded, ReadsStore};
 ghost use Rattle.fork_host.specs.Handle.{IsSame, Ready, Uses, both_by, staged_by, visible_by};
-ghost use Rattle.fork_host.specs.Own.{IsOwn, KeepsStaged, visible_in};
+ghost use Rattle.fork_host.specs.Own.{IsOwn, KeepsStaged, staged_in, visible_in};
 ghost use Rattle.fork_host.specs.Rows.{Yields};
 ghost use Rattle.fork_host.specs.Safe.{IsSafe};
 ghost use Rattle.fork_host.specs.Pushed.{IsTaken, Sends, TellsBrief, TellsHeld, view_of};
 ghost use Rattle.fork_host.specs.Sent.{sent_names};
 
 use crate::own::Own;
-use crate::replies::{done, host_fault, push_refusal, stream_refusal, vault_fault};
+use crate::replies::{done, host_fault, is_done, push_refusal, stream_refusal, vault_fault};
 use crate::repositories::Repositories;
 use crate::staging::{discard, publish, stage_all};
 use fork_push::Verdict;
@@ -103,6 +103,10 @@ fn take<S: LooseFiles>(
         name,
         brief,
     );
+    // What was taken is no longer staged.
+    if is_done(&reply) {
+        return reply;
+    }
     discard(own);
     reply
 }
@@ -172,6 +176,7 @@ fn settle<S: LooseFiles>(
         result (view_of rest repositories.new (visible_in own.new.vault.now own.old.tenant.now) limit) }
     ensures own { IsOwn own.old.tenant.now own.old.vault.now own.new.vault.now }
     ensures kept { is_done result ≡ false → KeepsStaged own.old.tenant.now own.old.vault.now own.new.vault.now }
+    ensures none { is_done result ≡ true → staged_in own.new.vault.now own.old.tenant.now ≡ map.empty }
     ensures places { own.new.vault.now.places ≡ own.old.vault.now.places }
     ensures same { IsSame own.old own.new }
 {
@@ -195,6 +200,7 @@ fn accept<S: LooseFiles>(
     requires repository { map.contains_key repositories.old name ≡ true }
     ensures taken { (was : Repository) → map.get repositories.old name ≡ Some was
         → IsTaken own.old.tenant.now (map.insert repositories.old name (record was { references = new })) own.old.vault.now result repositories.new own.new.vault.now }
+    ensures none { staged_in own.new.vault.now own.old.tenant.now ≡ map.empty }
     ensures own { IsOwn own.old.tenant.now own.old.vault.now own.new.vault.now }
     ensures store { LeavesStore own.old.vault.now own.new.vault.now }
     ensures same { IsSame own.old own.new }

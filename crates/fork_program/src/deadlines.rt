@@ -113,14 +113,13 @@ impl<'a, H: Clock> TimedConnection<'a, H> {
         }
     }
 
-    // The deadline for the peer to take the reply that is being written.
-    fn taking(&self) -> io::Result<Instant> {
+    // How long the peer may still take for the reply that is being written.
+    fn taking(&self) -> io::Result<Duration> {
         match self.awaited.get() {
-            Awaited::Taking(end) => Ok(end),
+            Awaited::Taking(end) => self.left(end),
             _ => {
-                let end = self.end()?;
-                self.awaited.set(Awaited::Taking(end));
-                Ok(end)
+                self.awaited.set(Awaited::Taking(self.end()?));
+                Ok(Duration::from_secs(PATIENCE))
             }
         }
     }
@@ -141,12 +140,8 @@ impl<H: Clock> Read for Coming<'_, H> {
         self.connection.stream.set_read_timeout(left)?;
         let mut stream = self.connection.stream;
         let n = stream.read(buf)?;
-        if n > 0 {
-            self.connection.begin()?;
-            self.connection
-                .came
-                .set(self.connection.came.get().saturating_add(n as u64));
-        }
+        let came = self.connection.came.get().saturating_add(n as u64);
+        self.connection.came.set(came);
         Ok(n)
     }
 }
@@ -171,10 +166,11 @@ impl<H: Clock> Read for Frames<'_, H> {
         if self.connection.is_due() {
             return Ok(0);
         }
-        if !self.coming.buffer().is_empty() {
+        let n = self.coming.read(buf)?;
+        if n > 0 {
             self.connection.begin()?;
         }
-        self.coming.read(buf)
+        Ok(n)
     }
 }
 
@@ -193,8 +189,7 @@ impl<'a, H: Clock> Replies<'a, H> {
 
 impl<H: Clock> Write for Replies<'_, H> {
     fn write(&mut self, buf: &[u8]) -> io::Result<usize> {
-        let end = self.connection.taking()?;
-        let left = self.connection.left(end)?;
+        let left = self.connection.taking()?;
         self.connection.stream.set_write_timeout(Some(left))?;
         let mut stream = self.connection.stream;
         stream.write(&buf[..buf.len().min(PIECE)])

@@ -32,10 +32,8 @@ pub(crate) fn sync_bytes<D: Device>(device: &mut D, path: &str) -> Result<(), De
 }
 
 // Succeeds if no file is right in a folder.
-fn require_empty<D: Device>(device: &mut D, alloc: Global, folder: &str) -> Result<(), DeviceFault>
-    ensures none { IsTrue (D.honest device.old) → OnOk result (names_in_folder folder.now (map.keys (files_of (D.past device.old))) ≡ []) }
-    ensures past { IsTrue (D.honest device.old) → D.past device.new ≡ D.past device.old }
-    ensures honest { D.honest device.new ≡ D.honest device.old }
+fn require_empty<D: Device>(device: &D, alloc: Global, folder: &str) -> Result<(), DeviceFault>
+    ensures { IsTrue (D.honest device.now) → OnOk result (names_in_folder folder.now (map.keys (files_of (D.past device.now))) ≡ []) }
 {
     let listing = match device.list(alloc, folder) {
         Ok(listing) => listing,

@@ -109,7 +109,7 @@ impl<D: Device> Log<D> {
         ensures honest { D.honest self.new.device ≡ D.honest self.old.device }
     {
         self.is_torn = true;
-        let segment = segment_after(&mut self.device, alloc, self.segment)?;
+        let segment = segment_after(&self.device, alloc, self.segment)?;
         let path = path_of(alloc, segment)?;
         self.segment = segment;
         self.path = path;
@@ -170,10 +170,8 @@ impl<D: Device> Log<D> {
     }
 
     /// The bytes at a place.
-    pub(crate) fn read(&mut self, alloc: Global, place: Place) -> Result<Vec<u8>, DeviceFault>
-        ensures found { IsTrue (D.honest self.old.device) → IfOk result (λ bytes. bytes.items ≡ bytes_at (files_of (D.past self.old.device)) place) }
-        ensures past { IsTrue (D.honest self.old.device) → D.past self.new.device ≡ D.past self.old.device }
-        ensures honest { D.honest self.new.device ≡ D.honest self.old.device }
+    pub(crate) fn read(&self, alloc: Global, place: Place) -> Result<Vec<u8>, DeviceFault>
+        ensures { IsTrue (D.honest self.now.device) → IfOk result (λ bytes. bytes.items ≡ bytes_at (files_of (D.past self.now.device)) place) }
     {
         let path = path_of(alloc, place.segment)?;
         let at = place.at as u64;
@@ -219,7 +217,7 @@ impl<D: Device> Log<D> {
             return Ok(());
         }
         let path = path_of(alloc, segment)?;
-        let size = length_of(&mut self.device, alloc, path.as_str())?;
+        let size = length_of(&self.device, alloc, path.as_str())?;
         self.is_new = true;
         self.is_dirty = true;
         remove_at(&mut self.device, path.as_str())?;

@@ -8,10 +8,8 @@ use devices::{Device, DeviceFault};
 use std::alloc::Global;
 
 // Whether a segment has no bytes. One that does not exist has none.
-fn is_blank<D: Device>(device: &mut D, alloc: Global, segment: u32) -> Result<bool, DeviceFault>
-    ensures blank { IsTrue (D.honest device.old) → IfOk result (λ is. is ≡ true → length (segment_of (files_of (D.past device.old)) segment) ≡ 0) }
-    ensures past { IsTrue (D.honest device.old) → D.past device.new ≡ D.past device.old }
-    ensures honest { D.honest device.new ≡ D.honest device.old }
+fn is_blank<D: Device>(device: &D, alloc: Global, segment: u32) -> Result<bool, DeviceFault>
+    ensures { IsTrue (D.honest device.now) → IfOk result (λ is. is ≡ true → length (segment_of (files_of (D.past device.now)) segment) ≡ 0) }
 {
     let path = path_of(alloc, segment)?;
     let has = has_bytes(device, alloc, path.as_str(), 1)?;
@@ -19,11 +17,9 @@ fn is_blank<D: Device>(device: &mut D, alloc: Global, segment: u32) -> Result<bo
 }
 
 // The number of the next segment, which must not exist.
-fn next_segment<D: Device>(device: &mut D, alloc: Global, segment: u32) -> Result<u32, DeviceFault>
-    ensures empty { IsTrue (D.honest device.old) → IfOk result (λ next. length (segment_of (files_of (D.past device.old)) next) ≡ 0) }
+fn next_segment<D: Device>(device: &D, alloc: Global, segment: u32) -> Result<u32, DeviceFault>
+    ensures empty { IsTrue (D.honest device.now) → IfOk result (λ next. length (segment_of (files_of (D.past device.now)) next) ≡ 0) }
     ensures later { IfOk result (λ next. segment ≤ next) }
-    ensures past { IsTrue (D.honest device.old) → D.past device.new ≡ D.past device.old }
-    ensures honest { D.honest device.new ≡ D.honest device.old }
 {
     if segment >= LAST_SEGMENT {
         return Err(DeviceFault::Device);
@@ -39,14 +35,12 @@ fn next_segment<D: Device>(device: &mut D, alloc: Global, segment: u32) -> Resul
 
 /// The segment to begin after this one: the same, if it is one and has no bytes, or else the next, which does not exist.
 pub(crate) fn segment_after<D: Device>(
-    device: &mut D,
+    device: &D,
     alloc: Global,
     segment: u32,
 ) -> Result<u32, DeviceFault>
-    ensures empty { IsTrue (D.honest device.old) → IfOk result (λ next. length (segment_of (files_of (D.past device.old)) next) ≡ 0) }
+    ensures empty { IsTrue (D.honest device.now) → IfOk result (λ next. length (segment_of (files_of (D.past device.now)) next) ≡ 0) }
     ensures later { IfOk result (λ next. segment ≤ next) }
-    ensures past { IsTrue (D.honest device.old) → D.past device.new ≡ D.past device.old }
-    ensures honest { D.honest device.new ≡ D.honest device.old }
 {
     if segment == 0 {
         return next_segment(device, alloc, 0);

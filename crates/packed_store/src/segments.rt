@@ -43,7 +43,7 @@ pub struct Segments<D: Device> {
 impl<D: Device + Drop> Segments<D> {
     // The segments of a device. A removal that was not made final is undone.
     fn resumed(
-        mut device: D,
+        device: D,
         alloc: Global,
         hashing: Hashing,
         gate: Gate,
@@ -53,7 +53,7 @@ impl<D: Device + Drop> Segments<D> {
         ensures honest { IfOk result (λ store. D.honest store.log.device ≡ D.honest device) }
     {
         let mut found = Found::new(alloc, hashing);
-        let extent = survey(&mut device, alloc, &mut found)?;
+        let extent = survey(&device, alloc, &mut found)?;
         let owes_undo = found.owes_undo();
         found.undo()?;
         let log = Log::resume(device, alloc, extent, owes_undo)?;
@@ -108,7 +108,7 @@ impl<D: Device> LooseFiles for Segments<D> {
     ghost failures = { λ store. store.failures };
 
     fn get(&mut self, alloc: Global, name: Name) -> Result<Option<Vec<u8>>, FileFault> {
-        let answer = read_file(&mut self.log, &self.index, alloc, name);
+        let answer = read_file(&self.log, &self.index, alloc, name);
         answered(&mut self.failures, answer)
     }
 

@@ -19,14 +19,12 @@ use std::alloc::Global;
 
 /// The file of a name, if there is one.
 pub(crate) fn read_file<D: Device>(
-    log: &mut Log<D>,
+    log: &Log<D>,
     index: &Index,
     alloc: Global,
     name: Name,
 ) -> Result<Option<Vec<u8>>, DeviceFault>
-    ensures found { IsTrue (D.honest log.old.device) → IfOk result (λ found. option_map (λ bytes. bytes.items) found ≡ map.get (contents_in (D.honest log.old.device) (D.past log.old.device) (index_of index.now.entries)) name) }
-    ensures past { IsTrue (D.honest log.old.device) → D.past log.new.device ≡ D.past log.old.device }
-    ensures honest { D.honest log.new.device ≡ D.honest log.old.device }
+    ensures { IsTrue (D.honest log.now.device) → IfOk result (λ found. option_map (λ bytes. bytes.items) found ≡ map.get (contents_in (D.honest log.now.device) (D.past log.now.device) (index_of index.now.entries)) name) }
 {
     let Some(place) = place_of(index, name) else {
         return Ok(None);

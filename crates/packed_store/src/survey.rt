@@ -41,16 +41,14 @@ struct Between {
 
 /// Whether a file has at least so many bytes.
 pub(crate) fn has_bytes<D: Device>(
-    device: &mut D,
+    device: &D,
     alloc: Global,
     path: &str,
     count: u32,
 ) -> Result<bool, DeviceFault>
     requires { 0 < count }
-    ensures more { IsTrue (D.honest device.old) → IfOk result (λ has. has ≡ true → count ≤ length (bytes_of (D.past device.old) path.now)) }
-    ensures fewer { IsTrue (D.honest device.old) → IfOk result (λ has. has ≡ false → length (bytes_of (D.past device.old) path.now) < count) }
-    ensures past { IsTrue (D.honest device.old) → D.past device.new ≡ D.past device.old }
-    ensures honest { D.honest device.new ≡ D.honest device.old }
+    ensures more { IsTrue (D.honest device.now) → IfOk result (λ has. has ≡ true → count ≤ length (bytes_of (D.past device.now) path.now)) }
+    ensures fewer { IsTrue (D.honest device.now) → IfOk result (λ has. has ≡ false → length (bytes_of (D.past device.now) path.now) < count) }
 {
     let found = device.read_part(alloc, path, count as u64, 0)?;
     Ok(found.is_some())
@@ -58,17 +56,15 @@ pub(crate) fn has_bytes<D: Device>(
 
 // Halves what is not known of the length of a file.
 fn halve<D: Device>(
-    device: &mut D,
+    device: &D,
     alloc: Global,
     path: &str,
     known: Between,
 ) -> Result<Between, DeviceFault>
     requires { known.least + 1 < known.more }
-    ensures least { IsTrue (D.honest device.old) → known.least ≤ length (bytes_of (D.past device.old) path.now) → IfOk result (λ now. now.least ≤ length (bytes_of (D.past device.old) path.now)) }
-    ensures more { IsTrue (D.honest device.old) → length (bytes_of (D.past device.old) path.now) < known.more → IfOk result (λ now. length (bytes_of (D.past device.old) path.now) < now.more) }
+    ensures least { IsTrue (D.honest device.now) → known.least ≤ length (bytes_of (D.past device.now) path.now) → IfOk result (λ now. now.least ≤ length (bytes_of (D.past device.now) path.now)) }
+    ensures more { IsTrue (D.honest device.now) → length (bytes_of (D.past device.now) path.now) < known.more → IfOk result (λ now. length (bytes_of (D.past device.now) path.now) < now.more) }
     ensures smaller { IfOk result (λ now. (now.least < now.more) × (now.more + known.least < known.more + now.least)) }
-    ensures past { IsTrue (D.honest device.old) → D.past device.new ≡ D.past device.old }
-    ensures honest { D.honest device.new ≡ D.honest device.old }
 {
     let Between { least, more } = known;
     let middle = least + (more - least) / 2;
@@ -86,13 +82,11 @@ fn halve<D: Device>(
 
 /// How many bytes a file has. One of 2^32 - 1 bytes or more is no store's.
 pub(crate) fn length_of<D: Device>(
-    device: &mut D,
+    device: &D,
     alloc: Global,
     path: &str,
 ) -> Result<u32, DeviceFault>
-    ensures exact { IsTrue (D.honest device.old) → IfOk result (λ count. length (bytes_of (D.past device.old) path.now) ≡ count) }
-    ensures past { IsTrue (D.honest device.old) → D.past device.new ≡ D.past device.old }
-    ensures honest { D.honest device.new ≡ D.honest device.old }
+    ensures { IsTrue (D.honest device.now) → IfOk result (λ count. length (bytes_of (D.past device.now) path.now) ≡ count) }
 {
     if has_bytes(device, alloc, path, u32::MAX)? {
         return Err(DeviceFault::Device);
@@ -109,16 +103,14 @@ pub(crate) fn length_of<D: Device>(
 
 // Takes in the records of a segment that has so many bytes, from its first byte on. Returns whether all of them are whole.
 fn survey_bytes<D: Device>(
-    device: &mut D,
+    device: &D,
     alloc: Global,
     segment: u32,
     end: u32,
     found: &mut Found,
 ) -> Result<bool, DeviceFault>
-    ensures written { IsTrue (D.honest device.old) → OnOk result (AllWritten (files_of (D.past device.old)) (shown_in found.old.live.entries found.old.pending.entries) → AllWritten (files_of (D.past device.old)) (shown_in found.new.live.entries found.new.pending.entries)) }
-    ensures reads { IsTrue (D.honest device.old) → length (segment_of (files_of (D.past device.old)) segment) ≡ end → OnOk result (ReadsAll (segment_of (files_of (D.past device.old)) segment) segment (seen_in found.old.live.entries found.old.pending.entries found.old.is_damaged) (seen_in found.new.live.entries found.new.pending.entries found.new.is_damaged)) }
-    ensures past { IsTrue (D.honest device.old) → D.past device.new ≡ D.past device.old }
-    ensures honest { D.honest device.new ≡ D.honest device.old }
+    ensures written { IsTrue (D.honest device.now) → OnOk result (AllWritten (files_of (D.past device.now)) (shown_in found.old.live.entries found.old.pending.entries) → AllWritten (files_of (D.past device.now)) (shown_in found.new.live.entries found.new.pending.entries)) }
+    ensures reads { IsTrue (D.honest device.now) → length (segment_of (files_of (D.past device.now)) segment) ≡ end → OnOk result (ReadsAll (segment_of (files_of (D.past device.now)) segment) segment (seen_in found.old.live.entries found.old.pending.entries found.old.is_damaged) (seen_in found.new.live.entries found.new.pending.entries found.new.is_damaged)) }
 {
     let mut at: u32 = 0;
     while at < end {
@@ -167,7 +159,7 @@ fn window_at(at: u32, end: u32) -> u32
 
 // Reads a window of a segment, and takes in the whole records at its front.
 fn take_next<D: Device>(
-    device: &mut D,
+    device: &D,
     alloc: Global,
     segment: u32,
     at: u32,
@@ -176,11 +168,9 @@ fn take_next<D: Device>(
 ) -> Result<u32, DeviceFault>
     requires { at < end }
     ensures within { IfOk result (λ taken. at + taken ≤ end) }
-    ensures written { IsTrue (D.honest device.old) → OnOk result (AllWritten (files_of (D.past device.old)) (shown_in found.old.live.entries found.old.pending.entries) → AllWritten (files_of (D.past device.old)) (shown_in found.new.live.entries found.new.pending.entries)) }
-    ensures reads { IsTrue (D.honest device.old) → IfOk result (λ taken. Reads (drop at (segment_of (files_of (D.past device.old)) segment)) segment at (seen_in found.old.live.entries found.old.pending.entries found.old.is_damaged) (seen_in found.new.live.entries found.new.pending.entries found.new.is_damaged) taken) }
-    ensures ends { IsTrue (D.honest device.old) → length (segment_of (files_of (D.past device.old)) segment) ≡ end → IfOk result (λ taken. taken ≡ 0 → Takes (drop at (segment_of (files_of (D.past device.old)) segment)) segment at (seen_in found.new.live.entries found.new.pending.entries found.new.is_damaged) (seen_in found.new.live.entries found.new.pending.entries found.new.is_damaged) None) }
-    ensures past { IsTrue (D.honest device.old) → D.past device.new ≡ D.past device.old }
-    ensures honest { D.honest device.new ≡ D.honest device.old }
+    ensures written { IsTrue (D.honest device.now) → OnOk result (AllWritten (files_of (D.past device.now)) (shown_in found.old.live.entries found.old.pending.entries) → AllWritten (files_of (D.past device.now)) (shown_in found.new.live.entries found.new.pending.entries)) }
+    ensures reads { IsTrue (D.honest device.now) → IfOk result (λ taken. Reads (drop at (segment_of (files_of (D.past device.now)) segment)) segment at (seen_in found.old.live.entries found.old.pending.entries found.old.is_damaged) (seen_in found.new.live.entries found.new.pending.entries found.new.is_damaged) taken) }
+    ensures ends { IsTrue (D.honest device.now) → length (segment_of (files_of (D.past device.now)) segment) ≡ end → IfOk result (λ taken. taken ≡ 0 → Takes (drop at (segment_of (files_of (D.past device.now)) segment)) segment at (seen_in found.new.live.entries found.new.pending.entries found.new.is_damaged) (seen_in found.new.live.entries found.new.pending.entries found.new.is_damaged) None) }
 {
     let path = path_of(alloc, segment)?;
     let size = window_at(at, end);
@@ -192,16 +182,14 @@ fn take_next<D: Device>(
 
 // Takes in the whole records of a segment.
 fn survey_segment<D: Device>(
-    device: &mut D,
+    device: &D,
     alloc: Global,
     segment: u32,
     found: &mut Found,
 ) -> Result<Last, DeviceFault>
-    ensures written { IsTrue (D.honest device.old) → OnOk result (AllWritten (files_of (D.past device.old)) (shown_in found.old.live.entries found.old.pending.entries) → AllWritten (files_of (D.past device.old)) (shown_in found.new.live.entries found.new.pending.entries)) }
-    ensures last { IsTrue (D.honest device.old) → IfOk result (λ last. length (segment_of (files_of (D.past device.old)) last.segment) ≡ last.end) }
-    ensures reads { IsTrue (D.honest device.old) → OnOk result (ReadsAll (segment_of (files_of (D.past device.old)) segment) segment (seen_in found.old.live.entries found.old.pending.entries false) (seen_in found.new.live.entries found.new.pending.entries found.new.is_damaged)) }
-    ensures past { IsTrue (D.honest device.old) → D.past device.new ≡ D.past device.old }
-    ensures honest { D.honest device.new ≡ D.honest device.old }
+    ensures written { IsTrue (D.honest device.now) → OnOk result (AllWritten (files_of (D.past device.now)) (shown_in found.old.live.entries found.old.pending.entries) → AllWritten (files_of (D.past device.now)) (shown_in found.new.live.entries found.new.pending.entries)) }
+    ensures last { IsTrue (D.honest device.now) → IfOk result (λ last. length (segment_of (files_of (D.past device.now)) last.segment) ≡ last.end) }
+    ensures reads { IsTrue (D.honest device.now) → OnOk result (ReadsAll (segment_of (files_of (D.past device.now)) segment) segment (seen_in found.old.live.entries found.old.pending.entries false) (seen_in found.new.live.entries found.new.pending.entries found.new.is_damaged)) }
 {
     found.begin_segment();
     let path = path_of(alloc, segment)?;
@@ -239,16 +227,14 @@ fn number_of(called: &[u8]) -> Option<u32>
 
 // Takes in the whole records of a segment, if one is called so.
 fn survey_called<D: Device>(
-    device: &mut D,
+    device: &D,
     alloc: Global,
     called: &[u8],
     found: &mut Found,
 ) -> Result<Option<Last>, DeviceFault>
-    ensures written { IsTrue (D.honest device.old) → OnOk result (AllWritten (files_of (D.past device.old)) (shown_in found.old.live.entries found.old.pending.entries) → AllWritten (files_of (D.past device.old)) (shown_in found.new.live.entries found.new.pending.entries)) }
-    ensures last { IsTrue (D.honest device.old) → IfOk result (λ next. IfSome next (λ last. length (segment_of (files_of (D.past device.old)) last.segment) ≡ last.end)) }
-    ensures adds { IsTrue (D.honest device.old) → OnOk result (Adds (files_of (D.past device.old)) called.now (shown_in found.old.live.entries found.old.pending.entries) (shown_in found.new.live.entries found.new.pending.entries)) }
-    ensures past { IsTrue (D.honest device.old) → D.past device.new ≡ D.past device.old }
-    ensures honest { D.honest device.new ≡ D.honest device.old }
+    ensures written { IsTrue (D.honest device.now) → OnOk result (AllWritten (files_of (D.past device.now)) (shown_in found.old.live.entries found.old.pending.entries) → AllWritten (files_of (D.past device.now)) (shown_in found.new.live.entries found.new.pending.entries)) }
+    ensures last { IsTrue (D.honest device.now) → IfOk result (λ next. IfSome next (λ last. length (segment_of (files_of (D.past device.now)) last.segment) ≡ last.end)) }
+    ensures adds { IsTrue (D.honest device.now) → OnOk result (Adds (files_of (D.past device.now)) called.now (shown_in found.old.live.entries found.old.pending.entries) (shown_in found.new.live.entries found.new.pending.entries)) }
 {
     let Some(segment) = number_of(called) else {
         return Ok(None);
@@ -277,15 +263,13 @@ fn first_in(listing: &[Vec<u8>]) -> u32 {
 
 /// Takes in the whole records of all segments, in the order of their numbers. Returns their extent.
 pub(crate) fn survey<D: Device>(
-    device: &mut D,
+    device: &D,
     alloc: Global,
     found: &mut Found,
 ) -> Result<Extent, DeviceFault>
-    ensures written { IsTrue (D.honest device.old) → OnOk result (AllWritten (files_of (D.past device.old)) (shown_in found.old.live.entries found.old.pending.entries) → AllWritten (files_of (D.past device.old)) (shown_in found.new.live.entries found.new.pending.entries)) }
-    ensures surveys { IsTrue (D.honest device.old) → OnOk result (Surveys (files_of (D.past device.old)) (listed (files_of (D.past device.old))) (shown_in found.old.live.entries found.old.pending.entries) (shown_in found.new.live.entries found.new.pending.entries)) }
-    ensures last { IsTrue (D.honest device.old) → IfOk result (λ extent. extent.last.is_torn ≡ false → length (segment_of (files_of (D.past device.old)) extent.last.segment) ≡ extent.last.end) }
-    ensures past { IsTrue (D.honest device.old) → D.past device.new ≡ D.past device.old }
-    ensures honest { D.honest device.new ≡ D.honest device.old }
+    ensures written { IsTrue (D.honest device.now) → OnOk result (AllWritten (files_of (D.past device.now)) (shown_in found.old.live.entries found.old.pending.entries) → AllWritten (files_of (D.past device.now)) (shown_in found.new.live.entries found.new.pending.entries)) }
+    ensures surveys { IsTrue (D.honest device.now) → OnOk result (Surveys (files_of (D.past device.now)) (listed (files_of (D.past device.now))) (shown_in found.old.live.entries found.old.pending.entries) (shown_in found.new.live.entries found.new.pending.entries)) }
+    ensures last { IsTrue (D.honest device.now) → IfOk result (λ extent. extent.last.is_torn ≡ false → length (segment_of (files_of (D.past device.now)) extent.last.segment) ≡ extent.last.end) }
 {
     let mut last = Last {
         segment: 0,

@@ -8,9 +8,9 @@ use Rattle.folder_store.specs.Contents.{contents_in}
 use Rattle.folder_store.proofs.ListingLemmas.{sorted_listing}
 use Rattle.folder_store.proofs.listing.list_all.Goals as goal
 
-pub returns-clause-found : goal.returns-clause-found
-returns-clause-found g c honest =
+pub returns : goal.returns
+returns g c honest =
     sorted_listing (files_of (g.D.Device.past c.args.device.now)) c.sort_unstable.new.self.items c.dedup.new.self.items
-    (subst (λ (ns : List (List ℕ)). IsPermutation ns c.sort_unstable.new.self.items) (c.in_ok-names.ensures.found honest) c.sort_unstable.ensures.permutation)
+    (subst (λ (ns : List (List ℕ)). IsPermutation ns c.sort_unstable.new.self.items) (c.in_ok-names.ensures honest) c.sort_unstable.ensures.permutation)
     c.sort_unstable.ensures.sorted (dedup_is same_name _ _ c.dedup.ensures.filtered)
     ∙ ap (λ (b : Bool). map.keys (contents_in b (g.D.Device.past c.args.device.now))) (sym honest)

@@ -6,4 +6,4 @@ pub returns-clause-found : goal.returns-clause-found
 returns-clause-found g c honest =
     subst (λ (o : Option (List ℕ)). IfOk c.read.result (λ found. option_map {T = Vec ℕ Global} {U = List ℕ} (λ bytes. bytes.items) found ≡ o))
     (read_is (g.D.Device.honest c.args.device.now) (g.D.Device.past c.args.device.now) c.args.name c.as_str.result.now honest c.in_ok-path.ensures.name (c.as_str.ensures.value ∙ c.in_ok-path.ensures.path))
-    (c.read.ensures.found honest)
+    (c.read.ensures honest)

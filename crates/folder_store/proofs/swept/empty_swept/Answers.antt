@@ -1,9 +1,7 @@
-use Rattle.std.proofs.Common.{◌<◌, ◌+◌, ℕ, ◌∷◌, List, length, drop, sym, ap, ◌∙◌, arith}
-use Rattle.std.specs.FinMap as map
+use Rattle.std.proofs.Common.{◌<◌, ◌+◌, ℕ, ◌∷◌, List, length, drop, refl, sym, ap, ◌∙◌, arith}
 use Rattle.std.proofs.lemmas.List.{drop_more}
-use Rattle.devices.specs.Device.{Past, files_of}
+use Rattle.devices.specs.Device.{files_of}
 use Rattle.git_name.specs.Same.{is_one_of}
-use Rattle.folder_store.specs.Place.{swept_of}
 use Rattle.folder_store.proofs.CallLemmas.{forgets_none, forgets_then}
 use Rattle.folder_store.proofs.SweptLemmas.{all_listed, fewer_removed}
 use Rattle.folder_store.proofs.swept.empty_swept.Goals as goal
@@ -11,11 +9,10 @@ use Rattle.folder_store.proofs.swept.empty_swept.Goals as goal
 pub loop-name-init : goal.loop-name-init
 loop-name-init g c =
     let before = g.D.Device.past c.args.device.now in (
-      c.swept_names.ensures.honest,
-      c.swept_names.ensures.kept,
-      (λ honest. forgets_none before (g.D.Device.past c.swept_names.new.device) (c.swept_names.ensures.past honest)),
-      (λ honest is_empty q q_name none. ap (λ (p : Past). map.get (files_of p) (swept_of q)) (c.swept_names.ensures.past honest)
-          ∙ all_listed (files_of before) q q_name (ap (λ (ns : List (List ℕ)). is_one_of ns q) (sym (c.deref-name-items.ensures.value ∙ c.in_ok-names.ensures.found honest)) ∙ none)),
+      refl,
+      refl,
+      (λ honest. forgets_none before before refl),
+      (λ honest is_empty q q_name none. all_listed (files_of before) q q_name (ap (λ (ns : List (List ℕ)). is_one_of ns q) (sym (c.deref-name-items.ensures.value ∙ c.in_ok-names.ensures honest)) ∙ none)),
     )
 
 pub loop-name-preserved : goal.loop-name-preserved

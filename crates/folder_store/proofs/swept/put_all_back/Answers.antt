@@ -1,12 +1,11 @@
-use Rattle.std.proofs.Common.{◌<◌, ◌+◌, ℕ, ◌∷◌, List, length, drop, refl, sym, ap, ◌∙◌, subst, arith}
+use Rattle.std.proofs.Common.{◌<◌, ◌+◌, ℕ, ◌∷◌, List, length, drop, refl, sym, ap, ◌∙◌, arith}
 use Rattle.std.specs.FinMap as map
 use Rattle.std.proofs.lemmas.List.{drop_more}
-use Rattle.devices.specs.Device.{Past, files_of}
+use Rattle.devices.specs.Device.{files_of}
 use Rattle.devices.specs.declared.device.DeviceFault.{DeviceFault}
 use Rattle.git_name.specs.Same.{is_one_of}
 use Rattle.folder_store.specs.Contents.{contents_of}
-use Rattle.folder_store.specs.Place.{swept_of}
-use Rattle.folder_store.specs.Swept.{OpenAlike, is_whole}
+use Rattle.folder_store.specs.Swept.{is_whole}
 use Rattle.folder_store.proofs.OpeningLemmas.{last_back, last_none, last_then}
 use Rattle.folder_store.proofs.SweptLemmas.{alike_then, all_listed, fewer_left, stepped_back}
 use Rattle.folder_store.proofs.swept.put_all_back.Goals as goal
@@ -14,11 +13,10 @@ use Rattle.folder_store.proofs.swept.put_all_back.Goals as goal
 pub loop-name-init : goal.loop-name-init
 loop-name-init g c =
     let before = g.D.Device.past c.args.device.now in (
-      c.swept_names.ensures.honest,
-      (λ honest. subst (λ (p : Past). OpenAlike (files_of before) (files_of p)) (sym (c.swept_names.ensures.past honest)) (λ q q_name. refl)),
-      (λ honest q q_name none. ap (λ (p : Past). map.get (files_of p) (swept_of q)) (c.swept_names.ensures.past honest)
-          ∙ all_listed (files_of before) q q_name (ap (λ (ns : List (List ℕ)). is_one_of ns q) (sym (c.deref-name-items.ensures.value ∙ c.in_ok-names.ensures.found honest)) ∙ none)),
-      (λ honest. last_none before (g.D.Device.past c.swept_names.new.device) (c.swept_names.ensures.past honest)),
+      refl,
+      (λ honest q q_name. refl),
+      (λ honest q q_name none. all_listed (files_of before) q q_name (ap (λ (ns : List (List ℕ)). is_one_of ns q) (sym (c.deref-name-items.ensures.value ∙ c.in_ok-names.ensures honest)) ∙ none)),
+      (λ honest. last_none before before refl),
     )
 
 pub loop-name-preserved : goal.loop-name-preserved

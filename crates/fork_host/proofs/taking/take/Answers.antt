@@ -123,3 +123,50 @@ returns-clause-own g c =
       grows = grows_then names first.vault.now.places staged.vault.now.places new.vault.now.places c.stage_all.ensures.grows (grows_same names staged.vault.now.places new.vault.now.places (c.discard.ensures.store.places ∙ c.settle-reply.ensures.places));
       staged = still_none first.vault.now new.vault.now t c.requires.quiet (of_first first mid (λ t. staged_in new.vault.now t ≡ empty) both c.discard.ensures.none);
     }
+
+pub returns-then-is_done-clause-row : goal.returns-then-is_done-clause-row
+returns-then-is_done-clause-row g c rest was here honest =
+    let first = c.args.own.now in
+    let staged = c.stage_all.new.own in
+    let mid = c.settle-reply.new.own in
+    let sent = c.args.body.objects.items in
+    let changes = c.in-Ok-stage_all.ensures.ok in
+    let same = c.in-Ok-stage_all.ensures.same in
+    let seen = seen_kept first.vault.now staged.vault.now first.tenant.now (with_all_staged sent) (all_staged_seen sent) changes in
+    let named = c.in-Ok.ensures ∙ ap (map_list object_name) c.as_slice.ensures.value in
+    yields_from c.args.repositories.now c.settle-reply.new.repositories (visible_by staged) (visible_by first) (visible_in mid.vault.now staged.tenant.now) (visible_in mid.vault.now first.tenant.now) rest c.args.limit c.args.name was
+    (Ok (c.args.body.commands.items, sent)) c.settle-reply.result
+    (ap (λ r. visible_in staged.vault.now r.now) same.tenant ∙ seen.exact honest) (ap (λ r. visible_in mid.vault.now r.now) same.tenant)
+    (c.settle-reply.ensures.row rest sent was here (changes.honest ∙ honest) named (sent_beside first staged sent same honest c.requires.quiet changes))
+
+pub returns-then-is_done-clause-safe : goal.returns-then-is_done-clause-safe
+returns-then-is_done-clause-safe g c rest =
+    let first = c.args.own.now in
+    let staged = c.stage_all.new.own in
+    let mid = c.settle-reply.new.own in
+    let sent = c.args.body.objects.items in
+    let repositories = c.args.repositories.now in
+    let same = c.in-Ok-stage_all.ensures.same in
+    let seen = seen_kept first.vault.now staged.vault.now first.tenant.now (with_all_staged sent) (all_staged_seen sent) c.in-Ok-stage_all.ensures.ok in
+    let reply = c.settle-reply.result in
+    subst (λ objects. IsSafe (IsBounded sent first.vault.now mid.vault.now) (view_of rest repositories (visible_by first) c.args.limit) reply (view_of rest c.settle-reply.new.repositories objects c.args.limit))
+    (ap (λ r. visible_in mid.vault.now r.now) same.tenant)
+    (safe_from (IsBounded sent first.vault.now mid.vault.now) (IsBounded sent staged.vault.now mid.vault.now) repositories (visible_by first) (visible_by staged) rest c.args.limit reply _
+    (ap (λ r. measures_of (visible_in staged.vault.now r.now)) same.tenant ∙ seen.shape)
+    (bounded_after sent first.vault.now staged.vault.now mid.vault.now reply c.in-Ok-stage_all.ensures.gains)
+    (c.settle-reply.ensures.safe rest sent))
+
+pub returns-then-is_done-clause-own : goal.returns-then-is_done-clause-own
+returns-then-is_done-clause-own g c =
+    let first = c.args.own.now in
+    let staged = c.stage_all.new.own in
+    let mid = c.settle-reply.new.own in
+    let same = c.in-Ok-stage_all.ensures.same in
+    let t = first.tenant.now in
+    let names = sent_names c.args.body.objects.items in
+    record {
+      same = same_then first staged mid same c.settle-reply.ensures.same;
+      own = own_then t first.vault.now staged.vault.now mid.vault.now c.stage_all.ensures.own (of_first first staged (λ t. IsOwn t staged.vault.now mid.vault.now) same c.settle-reply.ensures.own);
+      grows = grows_then names first.vault.now.places staged.vault.now.places mid.vault.now.places c.stage_all.ensures.grows (grows_same names staged.vault.now.places mid.vault.now.places c.settle-reply.ensures.places);
+      staged = still_none first.vault.now mid.vault.now t c.requires.quiet (of_first first staged (λ t. staged_in mid.vault.now t ≡ empty) same (c.settle-reply.ensures.none (sym c.is_done.ensures ∙ c.then-is_done.true)));
+    }

@@ -1,10 +1,9 @@
-use Rattle.std.proofs.Common.{◌≡◌, ◌-◌, ◌<◌, ◌≤◌, IsTrue, length}
+use Rattle.std.proofs.Common.{◌-◌, ◌<◌, ◌≤◌, IsTrue, length}
 use Rattle.packed_store.specs.Place.{bytes_of}
 use Rattle.packed_store.proofs.survey.length_of.Given as goal
 
 abbrev pub invariant-loop-known : goal.invariant-loop-known
-invariant-loop-known g l = (l.known.least < l.known.more) × (g.D.Device.honest l.device ≡ g.D.Device.honest l.fn.device)
-    × (IsTrue (g.D.Device.honest l.fn.device) → g.D.Device.past l.device ≡ g.D.Device.past l.fn.device)
+invariant-loop-known g l = (l.known.least < l.known.more)
     × (IsTrue (g.D.Device.honest l.fn.device) → l.known.least ≤ length (bytes_of (g.D.Device.past l.fn.device) l.path))
     × (IsTrue (g.D.Device.honest l.fn.device) → length (bytes_of (g.D.Device.past l.fn.device) l.path) < l.known.more)
 

@@ -1,10 +1,9 @@
-use Rattle.std.proofs.Common.{◌<◌, ◌+◌, ◌≡◌, ℕ, ◌∷◌, List, Vec, Global, false, IfSome, length, drop, map as each, subst, sym, ap, ◌∙◌, arith}
+use Rattle.std.proofs.Common.{◌<◌, ◌+◌, ◌≡◌, ℕ, ◌∷◌, List, Vec, Global, false, length, drop, map as each, subst, sym, ap, ◌∙◌, arith}
 use Rattle.std.proofs.lemmas.List.{drop_more}
-use Rattle.devices.specs.Device.{Past, files_of}
+use Rattle.devices.specs.Device.{files_of}
 use Rattle.packed_store.specs.declared.survey.Last.{Last}
 use Rattle.packed_store.specs.Opening.{Adds, Surveys}
 use Rattle.packed_store.specs.Place.{segment_of}
-use Rattle.packed_store.specs.Stored.{AllWritten}
 use Rattle.packed_store.specs.Survey.{shown_in}
 use Rattle.packed_store.proofs.CountLemmas.{next_counted}
 use Rattle.packed_store.proofs.survey.survey.Goals as goal
@@ -13,12 +12,10 @@ pub loop-called-init : goal.loop-called-init
 loop-called-init g c =
     let files = files_of (g.D.Device.past c.args.device.now) in
     let shown = shown_in c.args.found.now.live.entries c.args.found.now.pending.entries in (
-      c.list.ensures.honest,
-      c.list.ensures.kept,
       (λ honest torn. let never : ⊥ = cc in absurd never),
       (λ honest all. all),
       (λ honest last surveys. subst (λ (names : List (List ℕ)). Surveys files names shown last)
-          (ap (λ (xs : List (Vec ℕ Global)). each (λ called. called.items) xs) c.deref-called-items.ensures.value ∙ c.in_ok-listing.ensures.found honest) surveys),
+          (ap (λ (xs : List (Vec ℕ Global)). each (λ called. called.items) xs) c.deref-called-items.ensures.value ∙ c.in_ok-listing.ensures honest) surveys),
     )
 
 pub loop-called-preserved : goal.loop-called-preserved
@@ -28,18 +25,14 @@ loop-called-preserved g c =
     let old = shown_in c.loop-called.found.live.entries c.loop-called.found.pending.entries in
     let new = shown_in c.survey_called.new.found.live.entries c.survey_called.new.found.pending.entries in
     let within : c.loop-called.called-index < length c.deref-called-items.result.now = omega (arith, c.loop-called-test.true) in (
-      c.survey_called.ensures.honest ∙ so_far.0,
-      (λ honest. c.survey_called.ensures.past (so_far.0 ∙ honest) ∙ so_far.1 honest),
       (λ honest. subst (λ (one : Last). one.is_torn ≡ false → length (segment_of files one.segment) ≡ one.end) (sym c.unwrap_or-last.ensures)
-          (next_counted files c.in_ok-next.next c.loop-called.last (so_far.2 honest)
-          (subst (λ (p : Past). IfSome c.in_ok-next.next (λ one. length (segment_of (files_of p) one.segment) ≡ one.end)) (so_far.1 honest) (c.in_ok-next.ensures.last (so_far.0 ∙ honest))))),
-      (λ honest all. subst (λ (p : Past). AllWritten (files_of p) old → AllWritten (files_of p) new) (so_far.1 honest) (c.in_ok-next.ensures.written (so_far.0 ∙ honest)) (so_far.3 honest all)),
-      (λ honest last surveys. so_far.4 honest last
+          (next_counted files c.in_ok-next.next c.loop-called.last (so_far.0 honest) (c.in_ok-next.ensures.last honest))),
+      (λ honest all. c.in_ok-next.ensures.written honest (so_far.1 honest all)),
+      (λ honest last surveys. so_far.2 honest last
           (subst (λ (xs : List (Vec ℕ Global)). Surveys files (each (λ called. called.items) xs) old last)
           (sym (drop_more c.deref-called-items.result.now c.loop-called.called-index c.called-item.result within ∙ ap (λ (v : Vec ℕ Global). v ∷ drop (c.loop-called.called-index + 1) c.deref-called-items.result.now) (sym c.called-item.is))) (
             new,
-            subst (λ (bytes : List ℕ). Adds files bytes old new) c.as_slice.ensures.value
-                (subst (λ (p : Past). Adds (files_of p) c.as_slice.result.now old new) (so_far.1 honest) (c.in_ok-next.ensures.adds (so_far.0 ∙ honest))),
+            subst (λ (bytes : List ℕ). Adds files bytes old new) c.as_slice.ensures.value (c.in_ok-next.ensures.adds honest),
             surveys,
           ))),
     )

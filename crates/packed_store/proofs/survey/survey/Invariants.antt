@@ -7,9 +7,7 @@ use Rattle.packed_store.specs.Survey.{Shown, shown_in}
 use Rattle.packed_store.proofs.survey.survey.Given as goal
 
 abbrev pub invariant-loop-called : goal.invariant-loop-called
-invariant-loop-called g l = (g.D.Device.honest l.device ≡ g.D.Device.honest l.fn.device)
-    × (IsTrue (g.D.Device.honest l.fn.device) → g.D.Device.past l.device ≡ g.D.Device.past l.fn.device)
-    × (IsTrue (g.D.Device.honest l.fn.device) → l.last.is_torn ≡ false → length (segment_of (files_of (g.D.Device.past l.fn.device)) l.last.segment) ≡ l.last.end)
+invariant-loop-called g l = (IsTrue (g.D.Device.honest l.fn.device) → l.last.is_torn ≡ false → length (segment_of (files_of (g.D.Device.past l.fn.device)) l.last.segment) ≡ l.last.end)
     × (IsTrue (g.D.Device.honest l.fn.device)
     → AllWritten (files_of (g.D.Device.past l.fn.device)) (shown_in l.fn.found.live.entries l.fn.found.pending.entries)
     → AllWritten (files_of (g.D.Device.past l.fn.device)) (shown_in l.found.live.entries l.found.pending.entries))

@@ -1,4 +1,4 @@
-use Rattle.std.proofs.Common.{◌≡◌, ◌-◌, ◌≤◌, IsTrue}
+use Rattle.std.proofs.Common.{◌-◌, ◌≤◌, IsTrue}
 use Rattle.devices.specs.Device.{files_of}
 use Rattle.packed_store.specs.Stored.{AllWritten}
 use Rattle.packed_store.specs.Place.{segment_of}
@@ -7,8 +7,7 @@ use Rattle.packed_store.specs.Taking.{Reads, seen_in}
 use Rattle.packed_store.proofs.survey.survey_bytes.Given as goal
 
 abbrev pub invariant-loop-at : goal.invariant-loop-at
-invariant-loop-at g l = (l.at ≤ l.end) × (g.D.Device.honest l.device ≡ g.D.Device.honest l.fn.device)
-    × (IsTrue (g.D.Device.honest l.fn.device) → g.D.Device.past l.device ≡ g.D.Device.past l.fn.device)
+invariant-loop-at g l = (l.at ≤ l.end)
     × (IsTrue (g.D.Device.honest l.fn.device)
     → AllWritten (files_of (g.D.Device.past l.fn.device)) (shown_in l.fn.found.live.entries l.fn.found.pending.entries)
     → AllWritten (files_of (g.D.Device.past l.fn.device)) (shown_in l.found.live.entries l.found.pending.entries))

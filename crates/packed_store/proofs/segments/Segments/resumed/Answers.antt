@@ -14,9 +14,9 @@ use Rattle.packed_store.proofs.segments.Segments.resumed.Goals as goal
 pub invariant_of-result : goal.invariant_of-result
 invariant_of-result g c = record {
   there = λ honest.
-      let first : IsTrue (g.D.Device.honest c.args.device) = sym c.survey.ensures.honest ∙ sym (ap g.D.Device.honest c.in_ok-log.ensures) ∙ honest in
+      let first : IsTrue (g.D.Device.honest c.args.device) = sym (ap g.D.Device.honest c.in_ok-log.ensures) ∙ honest in
       let files = files_of (g.D.Device.past c.args.device) in
-      let same : files_of (g.D.Device.past c.in_ok-log.log.device) ≡ files = ap (λ d. files_of (g.D.Device.past d)) c.in_ok-log.ensures ∙ ap files_of (c.survey.ensures.past first) in
+      let same : files_of (g.D.Device.past c.in_ok-log.log.device) ≡ files = ap (λ d. files_of (g.D.Device.past d)) c.in_ok-log.ensures in
       let shown = shown_in c.survey.new.found.live.entries c.survey.new.found.pending.entries in
       let all : AllWritten files shown = c.in_ok-extent.ensures.written first (subst (AllWritten files) (sym c.new-found.ensures) (nothing_written files)) in
       subst (λ (i : Index). AreRecorded (files_of (g.D.Device.past c.in_ok-log.log.device)) i) (sym c.in_ok-undo.ensures.live)
@@ -29,8 +29,8 @@ returns-clause-shows g c first name bytes shows =
     let log = c.in_ok-log.log in
     let index = index_of c.undo.new.self.live.entries in
     let shown = shown_in c.survey.new.found.live.entries c.survey.new.found.pending.entries in
-    let same : files_of (g.D.Device.past log.device) ≡ files = ap (λ d. files_of (g.D.Device.past d)) c.in_ok-log.ensures ∙ ap files_of (c.survey.ensures.past first) in
-    let honest : g.D.Device.honest log.device ≡ true = ap g.D.Device.honest c.in_ok-log.ensures ∙ c.survey.ensures.honest ∙ first in
+    let same : files_of (g.D.Device.past log.device) ≡ files = ap (λ d. files_of (g.D.Device.past d)) c.in_ok-log.ensures in
+    let honest : g.D.Device.honest log.device ≡ true = ap g.D.Device.honest c.in_ok-log.ensures ∙ first in
     let all : AllWritten files shown = c.in_ok-extent.ensures.written first (subst (AllWritten files) (sym c.new-found.ensures) (nothing_written files)) in
     let written : AreWritten files index = subst (λ (i : Index). AreWritten files i) (sym c.in_ok-undo.ensures.live) (opened_written files shown all) in
     shown_written files index name bytes written
@@ -42,8 +42,8 @@ returns-clause-exact g c first =
     let log = c.in_ok-log.log in
     let index = index_of c.undo.new.self.live.entries in
     let shown = shown_in c.survey.new.found.live.entries c.survey.new.found.pending.entries in
-    let same : files_of (g.D.Device.past log.device) ≡ files = ap (λ d. files_of (g.D.Device.past d)) c.in_ok-log.ensures ∙ ap files_of (c.survey.ensures.past first) in
-    let honest : g.D.Device.honest log.device ≡ true = ap g.D.Device.honest c.in_ok-log.ensures ∙ c.survey.ensures.honest ∙ first in
+    let same : files_of (g.D.Device.past log.device) ≡ files = ap (λ d. files_of (g.D.Device.past d)) c.in_ok-log.ensures in
+    let honest : g.D.Device.honest log.device ≡ true = ap g.D.Device.honest c.in_ok-log.ensures ∙ first in
     record {
       shown = shown;
       surveys = subst (λ (old : Shown). Surveys files (listed files) old shown) c.new-found.ensures (c.in_ok-extent.ensures.surveys first);

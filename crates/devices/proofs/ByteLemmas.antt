@@ -49,7 +49,7 @@ bytes_step base past (SyncedFolder folder) file = not_made (nat_eq file.1 (suc (
 bytes_step base past (FailedFile path) file = not_made (nat_eq file.1 (suc (length past))) base past file
 bytes_step base past (FailedFolder folder) file = not_made (nat_eq file.1 (suc (length past))) base past file
 
-number_is : (notes past : List Note) (note : Note) → notes ≡ note ∷ past → length notes ≡ suc (length (effects_of past))
+pub number_is : (notes past : List Note) (note : Note) → notes ≡ note ∷ past → length notes ≡ suc (length (effects_of past))
 number_is notes past note is = ap length is ∙ ap suc (sym (count_effects past))
 
 -- the bytes that are seen after the newest note

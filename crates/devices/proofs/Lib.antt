@@ -1,4 +1,5 @@
 pub mod ByteLemmas
+pub mod ChosenLemmas
 pub mod CopyLemmas
 pub mod LossLemmas
 pub mod NameLemmas

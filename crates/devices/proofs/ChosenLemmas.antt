@@ -1,14 +1,23 @@
--- What the fates leave of the bytes of a file.
-use Rattle.std.proofs.Common.{◌≡◌, ℕ, suc, Bool, true, false, cond, List, [], ◌∷◌, ◌++◌, Option, Some, None, length, nat_eq, refl, sym, ◌∙◌, ap}
-use Rattle.std.specs.List.{slice_get}
+-- What the fates leave: the bytes of a file, and the files.
+use Rattle.std.proofs.Common.{◌≡◌, ℕ, suc, ◌||◌, Bool, true, false, cond, List, [], ◌∷◌, ◌++◌, Option, Some, None, option_map, length, nat_eq, drop, refl, sym, ◌∙◌, ap, arith}
+use Rattle.std.specs.Cmp.Lexicographic.{pointwise}
+use Rattle.std.specs.FinMap.{get}
+use Rattle.std.specs.List.{list_any, slice_get}
+use Rattle.std.specs.Ordering.{eq_by_cmp}
+use Rattle.std.proofs.lemmas.Option.{slice_get_past}
+use Rattle.git_name.specs.Name.{name_cmp}
+use Rattle.devices.specs.Copy.{AreFound}
 use Rattle.devices.specs.Crash.{File, names_after, is_file, bytes_after}
-use Rattle.devices.specs.Device.{Files, Effect, Wrote, Added, Moved, Removed, SyncedFile, SyncedFolder, FailedFile, FailedFolder}
-use Rattle.devices.specs.Loss.{added_in, damaged_by, grown_by, is_sure, left_bytes, made_in, synced_in}
+use Rattle.devices.specs.Device.{Files, Effect, Wrote, Added, Moved, Removed, SyncedFile, SyncedFolder, FailedFile, FailedFolder, files_after}
+use Rattle.devices.specs.Loss.{added_in, changed, damaged_by, grown_by, is_chosen, is_sure, is_synced, kept_in, left_at, left_bytes, left_names, made_in, paths_of, source_seen, synced_in}
 use Rattle.devices.specs.Note.{effect_of, effects_of}
 use Rattle.devices.specs.declared.fate.Fate.{Fate}
 use Rattle.devices.specs.declared.note.Note.{Note}
 use Rattle.devices.proofs.ByteLemmas.{number_is}
-use Rattle.devices.proofs.NameLemmas.{count_effects}
+use Rattle.devices.proofs.CopyLemmas.{one_key}
+use Rattle.devices.proofs.LossLemmas.{key_among, none_left}
+use Rattle.devices.proofs.NameLemmas.{begun, behind, count_effects, seen_step}
+use Rattle.devices.proofs.SeenLemmas.{seen_bytes}
 
 -- ---- after an effect: what is left of a file that it made, of one that it is sure to have kept, and of one that it appended to
 abbrev pub after_loss : Option (List ℕ) → Bool → Option (List ℕ × List ℕ) → Files → List Fate → List Effect → File → List ℕ
@@ -87,3 +96,66 @@ chosen_grown base fates notes past note file fate path bytes left whole x is fat
     ∙ ap (grown_by (slice_get fates (length (effects_of past))) (left_bytes base fates (effects_of past) file)) whole_is
     ∙ ap (λ (b : Bool). cond b (grown_by (slice_get fates (length (effects_of past))) (left_bytes base fates (effects_of past) file) (bytes_after base (effects_of past) file ++ bytes)) (left_bytes base fates (effects_of past) file)) (sym at)
     ∙ loss_newest base fates notes past note file None false (Some (path, bytes)) is made_eq sure_eq added_eq
+
+-- ---- the files that are left
+-- a path that is among the others
+pub found_again : (found : List ℕ → Option (List ℕ)) (path : List ℕ) (paths others : List (List ℕ)) (left : Files) → paths ≡ path ∷ others → list_any (pointwise nat_eq path) others ≡ true → AreFound others found left
+    → AreFound paths found left
+found_again found path paths others left is among before q =
+    before q ∙ ap (λ (t : Bool). cond t (found q) None) (by (eq_by_cmp name_cmp q path) refl) ∙ ap (λ (ps : List (List ℕ)). cond (list_any (eq_by_cmp name_cmp q) ps) (found q) None) (sym is)
+  where
+    by : (b : Bool) → eq_by_cmp name_cmp q path ≡ b → list_any (eq_by_cmp name_cmp q) others ≡ (eq_by_cmp name_cmp q path || list_any (eq_by_cmp name_cmp q) others)
+    by true e =
+        ap (λ (p : List ℕ). list_any (eq_by_cmp name_cmp p) others) (one_key q path e) ∙ key_among path others among
+        ∙ sym (ap (λ (t : Bool). t || list_any (eq_by_cmp name_cmp q) others) e)
+    by false e = sym (ap (λ (t : Bool). t || list_any (eq_by_cmp name_cmp q) others) e)
+
+-- all that is left, at all paths at which there may be a file
+pub all_found : (base : Files) (fates : List Fate) (whole : List Effect) (paths : List (List ℕ)) (left : Files) → paths ≡ paths_of base whole → AreFound paths (left_at base fates whole) left → (q : List ℕ) → get left q ≡ left_at base fates whole q
+all_found base fates whole paths left is found q =
+    found q ∙ ap (λ (ps : List (List ℕ)). cond (list_any (eq_by_cmp name_cmp q) ps) (left_at base fates whole q) None) is ∙ by (list_any (eq_by_cmp name_cmp q) (paths_of base whole)) refl
+  where
+    by : (b : Bool) → list_any (eq_by_cmp name_cmp q) (paths_of base whole) ≡ b → cond b (left_at base fates whole q) None ≡ left_at base fates whole q
+    by true e = refl
+    by false e = sym (ap (option_map (left_bytes base fates whole)) (none_left base (kept_in fates whole) whole q e))
+
+-- ---- with no fates
+no_fate : (n : ℕ) → slice_get {X = Fate} [] n ≡ None
+no_fate n = slice_get_past [] n (omega arith)
+
+all_kept : (base : Files) (whole past : List Effect) (q : List ℕ) → left_names base (kept_in [] whole) past q ≡ names_after base past q
+all_kept base whole [] q = refl
+all_kept base whole (e ∷ past) q =
+    ap (λ (o : Option Fate). cond (cond (is_chosen o) true (is_synced whole e (length past))) (changed e (suc (length past)) (source_seen base past e) (left_names base (kept_in [] whole) past q) q) (left_names base (kept_in [] whole) past q)) (no_fate (length past))
+    ∙ ap (λ (o : Option File). changed e (suc (length past)) (source_seen base past e) o q) (all_kept base whole past q) ∙ sym (seen_step base past e q)
+
+all_grown : (left more : List ℕ) → grown_by None left (left ++ more) ≡ left ++ more
+all_grown left more = ap (λ (t : Bool). cond t (left ++ drop (length left) (left ++ more)) left) (begun left more) ∙ ap (λ (xs : List ℕ). left ++ xs) (behind left more)
+
+same_both : (b : Bool) (x : List ℕ) → cond b x x ≡ x
+same_both true x = refl
+same_both false x = refl
+
+all_stay : (base : Files) (past : List Effect) (file : File) → left_bytes base [] past file ≡ bytes_after base past file
+all_stay base [] file = refl
+all_stay base (Wrote path bytes ∷ past) file =
+    ap (λ (o : Option Fate). cond (nat_eq file.1 (suc (length past))) (damaged_by o bytes) (left_bytes base [] past file)) (no_fate (length past))
+    ∙ ap (cond (nat_eq file.1 (suc (length past))) bytes) (all_stay base past file)
+all_stay base (Added path bytes ∷ past) file =
+    ap (λ (o : Option Fate). cond (nat_eq file.1 (suc (length past))) (damaged_by o bytes) (cond (is_file (names_after base past path) file) (grown_by o (left_bytes base [] past file) (bytes_after base past file ++ bytes)) (left_bytes base [] past file))) (no_fate (length past))
+    ∙ ap (λ (l : List ℕ). cond (nat_eq file.1 (suc (length past))) bytes (cond (is_file (names_after base past path) file) (grown_by None l (bytes_after base past file ++ bytes)) l)) (all_stay base past file)
+    ∙ ap (λ (l : List ℕ). cond (nat_eq file.1 (suc (length past))) bytes (cond (is_file (names_after base past path) file) l (bytes_after base past file))) (all_grown (bytes_after base past file) bytes)
+all_stay base (Moved from to ∷ past) file = all_stay base past file
+all_stay base (Removed path ∷ past) file = all_stay base past file
+all_stay base (SyncedFile path ∷ past) file = ap (cond (is_sure base past (Some path) file) (bytes_after base past file)) (all_stay base past file) ∙ same_both (is_sure base past (Some path) file) (bytes_after base past file)
+all_stay base (SyncedFolder folder ∷ past) file = all_stay base past file
+all_stay base (FailedFile path ∷ past) file = all_stay base past file
+all_stay base (FailedFolder folder ∷ past) file = all_stay base past file
+
+-- nothing is lost
+pub nothing_lost : (base : Files) (past : List Effect) (q : List ℕ) → left_at base [] past q ≡ get (files_after base past) q
+nothing_lost base past q = ap (option_map (left_bytes base [] past)) (all_kept base past past q) ∙ each (names_after base past q) ∙ seen_bytes base past q
+  where
+    each : (o : Option File) → option_map (left_bytes base [] past) o ≡ option_map (bytes_after base past) o
+    each None = refl
+    each (Some file) = ap (λ (x : List ℕ). Some x) (all_stay base past file)

@@ -3,4 +3,5 @@ pub mod ChosenLemmas
 pub mod CopyLemmas
 pub mod LossLemmas
 pub mod NameLemmas
+pub mod SeenLemmas
 pub mod TreeLemmas

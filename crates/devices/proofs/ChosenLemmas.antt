@@ -1,21 +1,22 @@
 -- What the fates leave: the bytes of a file, and the files.
-use Rattle.std.proofs.Common.{◌≡◌, ℕ, suc, ◌||◌, Bool, true, false, cond, List, [], ◌∷◌, ◌++◌, Option, Some, None, option_map, length, nat_eq, drop, refl, sym, ◌∙◌, ap, arith}
+use Rattle.std.proofs.Common.{◌≡◌, ◌⊎◌, inl, inr, ℕ, suc, ◌||◌, Bool, true, false, cond, List, [], ◌∷◌, ◌++◌, Option, Some, None, option_map, length, nat_eq, take, drop, refl, sym, ◌∙◌, ap, subst, arith}
 use Rattle.std.specs.Cmp.Lexicographic.{pointwise}
 use Rattle.std.specs.FinMap.{get}
 use Rattle.std.specs.List.{list_any, slice_get}
 use Rattle.std.specs.Ordering.{eq_by_cmp}
+use Rattle.std.proofs.lemmas.Bool.Decides.{Decides-eqb}
 use Rattle.std.proofs.lemmas.Option.{slice_get_past}
 use Rattle.git_name.specs.Name.{name_cmp}
 use Rattle.devices.specs.Copy.{AreFound}
-use Rattle.devices.specs.Crash.{File, names_after, is_file, bytes_after}
+use Rattle.devices.specs.Crash.{File, IsFrontFrom, MayBytes, MayLeave, Stands, names_after, is_file, bytes_after}
 use Rattle.devices.specs.Device.{Files, Effect, Wrote, Added, Moved, Removed, SyncedFile, SyncedFolder, FailedFile, FailedFolder, files_after}
-use Rattle.devices.specs.Loss.{added_in, changed, damaged_by, grown_by, is_chosen, is_sure, is_synced, kept_in, left_at, left_bytes, left_names, made_in, paths_of, source_seen, synced_in}
+use Rattle.devices.specs.Loss.{added_in, changed, damaged_by, front_by, grown_by, is_chosen, is_sure, is_synced, kept_in, left_at, left_bytes, left_names, made_in, paths_of, source_seen, synced_in}
 use Rattle.devices.specs.Note.{effect_of, effects_of}
 use Rattle.devices.specs.declared.fate.Fate.{Fate}
 use Rattle.devices.specs.declared.note.Note.{Note}
-use Rattle.devices.proofs.ByteLemmas.{number_is}
+use Rattle.devices.proofs.ByteLemmas.{front_from, may_grown, may_kept, may_sure, number_is, split, whole_from}
 use Rattle.devices.proofs.CopyLemmas.{one_key}
-use Rattle.devices.proofs.LossLemmas.{key_among, none_left}
+use Rattle.devices.proofs.LossLemmas.{key_among, may_left, none_left}
 use Rattle.devices.proofs.NameLemmas.{begun, behind, count_effects, seen_step}
 use Rattle.devices.proofs.SeenLemmas.{seen_bytes}
 
@@ -96,6 +97,61 @@ chosen_grown base fates notes past note file fate path bytes left whole x is fat
     ∙ ap (grown_by (slice_get fates (length (effects_of past))) (left_bytes base fates (effects_of past) file)) whole_is
     ∙ ap (λ (b : Bool). cond b (grown_by (slice_get fates (length (effects_of past))) (left_bytes base fates (effects_of past) file) (bytes_after base (effects_of past) file ++ bytes)) (left_bytes base fates (effects_of past) file)) (sym at)
     ∙ loss_newest base fates notes past note file None false (Some (path, bytes)) is made_eq sure_eq added_eq
+
+-- ---- what the fates choose may be left
+chosen_front : (fate : Option Fate) (left whole : List ℕ) → (grown_by fate left whole ≡ left) ⊎ IsFrontFrom left whole (grown_by fate left whole)
+chosen_front fate left whole = by (pointwise nat_eq (take (length left) whole) left) refl fate
+  where
+    more : List ℕ
+    more = drop (length left) whole
+
+    by : (b : Bool) → pointwise nat_eq (take (length left) whole) left ≡ b → (o : Option Fate) → (cond b (left ++ front_by o more) left ≡ left) ⊎ IsFrontFrom left whole (cond b (left ++ front_by o more) left)
+    by true same None = inr (whole_from left whole more (left ++ more) (split left whole more same refl) refl)
+    by true same (Some fate) = inr (front_from left whole more (left ++ take fate.bytes more) fate.bytes (split left whole more same refl) refl)
+    by false differs o = inl refl
+
+may_chosen : (base : Files) (fates : List Fate) (past : List Effect) (file : File) → MayBytes base past file (left_bytes base fates past file)
+may_chosen base fates [] file = refl
+may_chosen base fates (Wrote path bytes ∷ past) file = by (nat_eq file.1 (suc (length past))) refl (may_chosen base fates past file)
+  where
+    by : (b : Bool) → nat_eq file.1 (suc (length past)) ≡ b → MayBytes base past file (left_bytes base fates past file)
+        → MayBytes base (Wrote path bytes ∷ past) file (cond b (damaged_by (slice_get fates (length past)) bytes) (left_bytes base fates past file))
+    by true e may = inl ((Decides-eqb file.1 (suc (length past))).0 e)
+    by false e may = inr may
+may_chosen base fates (Added path bytes ∷ past) file = by (nat_eq file.1 (suc (length past))) (is_file (names_after base past path) file) refl refl (may_chosen base fates past file)
+  where
+    grown : List ℕ
+    grown = grown_by (slice_get fates (length past)) (left_bytes base fates past file) (bytes_after base past file ++ bytes)
+
+    by : (b c : Bool) → nat_eq file.1 (suc (length past)) ≡ b → is_file (names_after base past path) file ≡ c → MayBytes base past file (left_bytes base fates past file)
+        → MayBytes base (Added path bytes ∷ past) file (cond b (damaged_by (slice_get fates (length past)) bytes) (cond c grown (left_bytes base fates past file)))
+    by true c e at may = inl ((Decides-eqb file.1 (suc (length past))).0 e)
+    by false true e at may = may_grown base past (Added path bytes) file path bytes (left_bytes base fates past file) grown refl at may (chosen_front (slice_get fates (length past)) (left_bytes base fates past file) (bytes_after base past file ++ bytes))
+    by false false e at may = inr (inl may)
+may_chosen base fates (Moved from to ∷ past) file = may_chosen base fates past file
+may_chosen base fates (Removed path ∷ past) file = may_chosen base fates past file
+may_chosen base fates (SyncedFile path ∷ past) file = by (is_sure base past (Some path) file) refl (may_chosen base fates past file)
+  where
+    by : (b : Bool) → is_sure base past (Some path) file ≡ b → MayBytes base past file (left_bytes base fates past file) → MayBytes base (SyncedFile path ∷ past) file (cond b (bytes_after base past file) (left_bytes base fates past file))
+    by true sure may = may_sure base past (SyncedFile path) file sure
+    by false unsure may = may_kept base past (SyncedFile path) file (left_bytes base fates past file) unsure may
+may_chosen base fates (SyncedFolder folder ∷ past) file = may_chosen base fates past file
+may_chosen base fates (FailedFile path ∷ past) file = may_chosen base fates past file
+may_chosen base fates (FailedFolder folder ∷ past) file = may_chosen base fates past file
+
+pub stands_chosen : (base : Files) (fates : List Fate) (past : List Effect) (q : List ℕ) → Stands base past (left_names base (kept_in fates past) past q) (left_at base fates past q)
+stands_chosen base fates past q = by (left_names base (kept_in fates past) past q)
+  where
+    by : (o : Option File) → Stands base past o (option_map (left_bytes base fates past) o)
+    by None = refl
+    by (Some file) = (left_bytes base fates past file, refl, may_chosen base fates past file)
+
+pub chosen_may_leave : (base : Files) (fates : List Fate) (past : List Effect) (left : Files) → ((q : List ℕ) → get left q ≡ left_at base fates past q) → MayLeave base past left
+chosen_may_leave base fates past left is = (
+  left_names base (kept_in fates past) past,
+  may_left base fates past [] past refl,
+  λ q. subst (Stands base past (left_names base (kept_in fates past) past q)) (sym (is q)) (stands_chosen base fates past q),
+)
 
 -- ---- the files that are left
 -- a path that is among the others

@@ -92,7 +92,7 @@ module _ (base : Files) (fates : List Fate) (whole : List Effect) where
   same_both false o = refl
 
   -- the names that are left may be left
-  may_left : (newer past : List Effect) → whole ≡ newer ++ past → MayNames base past (left_names base kept past)
+  pub may_left : (newer past : List Effect) → whole ≡ newer ++ past → MayNames base past (left_names base kept past)
   may_left newer [] is = λ q. refl
   may_left newer (Wrote path bytes ∷ past) is = may_step base past (Wrote path bytes) _ _ _ (may_left (newer ++ Wrote path bytes ∷ []) past (is ∙ sym (append_assoc newer _ past))) refl (λ q. refl)
   may_left newer (Added path bytes ∷ past) is = may_step base past (Added path bytes) _ _ _ (may_left (newer ++ Added path bytes ∷ []) past (is ∙ sym (append_assoc newer _ past))) refl (λ q. refl)

@@ -1,4 +1,4 @@
-ghost use Rattle.std.specs.Prelude.{◌≡◌, ◌⊎◌, IfOk, None, option_map};
+ghost use Rattle.std.specs.Prelude.{◌≡◌, ◌⊎◌, ◌++◌, IfOk, OnOk, None, option_map, replicate};
 ghost use Rattle.std.specs.FinMap as map;
 ghost use Rattle.std.specs.Option.{option_copied};
 ghost use Rattle.devices.specs.Crash.{MayBytes, IsFrontFrom, bytes_after, has_failed, is_file, names_after};
@@ -95,6 +95,16 @@ fn is_sure(base: &Tree, past: &[Note], note: &Note, file: &(&Text, usize)) -> bo
     !has_failed(base, past, file)
 }
 
+// Adds a byte so many times.
+fn add_times(bytes: &mut Vec<u8>, byte: u8, times: usize) -> Result<(), AllocError>
+    ensures { OnOk result (bytes.new.items ≡ bytes.old.items ++ replicate times byte) }
+{
+    for _ in 0..times {
+        bytes.push(byte)?;
+    }
+    Ok(())
+}
+
 // What a loss leaves of bytes with which a file was made.
 fn damaged(alloc: Global, bytes: &[u8], fate: Option<&Fate>) -> Result<Vec<u8>, AllocError>
     ensures { IfOk result (λ left. left.items ≡ damaged_by (option_copied fate.entry) bytes.now) }
@@ -103,9 +113,7 @@ fn damaged(alloc: Global, bytes: &[u8], fate: Option<&Fate>) -> Result<Vec<u8>, 
         return bytes.to_vec(alloc);
     };
     let mut left = bytes[..bytes.len().min(fate.bytes)].to_vec(alloc)?;
-    for _ in 0..fate.others {
-        left.push(fate.other)?;
-    }
+    add_times(&mut left, fate.other, fate.others)?;
     Ok(left)
 }
 

@@ -1,9 +1,10 @@
-ghost use Rattle.std.specs.Prelude.{◌≡◌, IfOk, List, ℕ, nat_eq};
+ghost use Rattle.std.specs.Prelude.{◌≡◌, IfOk, OnOk, List, ℕ, nat_eq};
 ghost use Rattle.std.specs.Cmp.Lexicographic.{pointwise};
 ghost use Rattle.std.specs.FinMap as map;
 ghost use Rattle.std.specs.List.{list_any};
 ghost use Rattle.devices.specs.Crash.{MayLeave, Stands};
 ghost use Rattle.devices.specs.Copy.{AreFound};
+ghost use Rattle.devices.specs.Device.{put_there};
 ghost use Rattle.devices.specs.Loss.{ArePlaced, kept_in, left_at, left_names, paths_of};
 ghost use Rattle.devices.specs.Note.{effects_of};
 
@@ -61,6 +62,24 @@ fn left_file(
     Ok(Some(Text::new(alloc, bytes.as_slice())?))
 }
 
+// Adds to files what is left at a path.
+fn add_left(
+    alloc: Global,
+    base: &Tree,
+    fates: &[Fate],
+    notes: &[Note],
+    path: &Text,
+    left: &mut Tree,
+) -> Result<(), AllocError>
+    ensures { OnOk result (left.new ≡ put_there left.old path.now (left_at base.now fates.now (effects_of notes.now) path.now)) }
+{
+    let Some(bytes) = left_file(alloc, base, fates, notes, path)? else {
+        return Ok(());
+    };
+    left.insert(Text::new(alloc, path.as_bytes())?, bytes)?;
+    Ok(())
+}
+
 // The files that are left at these paths.
 fn left_among(
     alloc: Global,
@@ -79,10 +98,7 @@ fn left_among(
         return left_among(alloc, base, fates, notes, others);
     }
     let mut left = left_among(alloc, base, fates, notes, others)?;
-    let Some(bytes) = left_file(alloc, base, fates, notes, path)? else {
-        return Ok(left);
-    };
-    left.insert(Text::new(alloc, path.as_bytes())?, bytes)?;
+    add_left(alloc, base, fates, notes, path, &mut left)?;
     Ok(left)
 }
 

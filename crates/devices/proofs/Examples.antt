@@ -1,5 +1,5 @@
 -- What fates leave of small files, computed.
-use Rattle.std.proofs.Common.{◌≡◌, List, ℕ, true, [], ◌∷◌, None, Some, refl}
+use Rattle.std.proofs.Common.{◌≡◌, true, [], ◌∷◌, None, Some, refl}
 use Rattle.devices.specs.Loss.{damaged_by, grown_by}
 use Rattle.devices.specs.declared.fate.Fate.{Fate}
 

@@ -49,7 +49,7 @@ bytes_step base past (SyncedFolder folder) file = not_made (nat_eq file.1 (suc (
 bytes_step base past (FailedFile path) file = not_made (nat_eq file.1 (suc (length past))) base past file
 bytes_step base past (FailedFolder folder) file = not_made (nat_eq file.1 (suc (length past))) base past file
 
-number_is : (notes past : List Note) (note : Note) → notes ≡ note ∷ past → length notes ≡ suc (length (effects_of past))
+pub number_is : (notes past : List Note) (note : Note) → notes ≡ note ∷ past → length notes ≡ suc (length (effects_of past))
 number_is notes past note is = ap length is ∙ ap suc (sym (count_effects past))
 
 -- the bytes that are seen after the newest note
@@ -107,7 +107,7 @@ may_made base past (FailedFile path) file bytes x is = none_made (nat_eq file.1 
 may_made base past (FailedFolder folder) file bytes x is = none_made (nat_eq file.1 (suc (length past))) bytes is
 
 -- a file that is sure to be kept has the bytes that are seen
-may_sure : (base : Files) (past : List Effect) (e : Effect) (file : File) → is_sure base past (synced_in e) file ≡ true → MayBytes base (e ∷ past) file (bytes_after base past file)
+pub may_sure : (base : Files) (past : List Effect) (e : Effect) (file : File) → is_sure base past (synced_in e) file ≡ true → MayBytes base (e ∷ past) file (bytes_after base past file)
 may_sure base past (Wrote path bytes) file is = absurd (cc)
 may_sure base past (Added path bytes) file is = absurd (cc)
 may_sure base past (Moved from to) file is = absurd (cc)
@@ -118,7 +118,7 @@ may_sure base past (FailedFile path) file is = absurd (cc)
 may_sure base past (FailedFolder folder) file is = absurd (cc)
 
 -- an effect that is not sure to keep a file may leave what may be left before it
-may_kept : (base : Files) (past : List Effect) (e : Effect) (file : File) (x : List ℕ) → is_sure base past (synced_in e) file ≡ false → MayBytes base past file x → MayBytes base (e ∷ past) file x
+pub may_kept : (base : Files) (past : List Effect) (e : Effect) (file : File) (x : List ℕ) → is_sure base past (synced_in e) file ≡ false → MayBytes base past file x → MayBytes base (e ∷ past) file x
 may_kept base past (Wrote path bytes) file x unsure may = inr may
 may_kept base past (Added path bytes) file x unsure may = inr (inl may)
 may_kept base past (Moved from to) file x unsure may = may
@@ -138,7 +138,7 @@ one_pair : (a b : List ℕ × List ℕ) → Some a ≡ Some b → a ≡ b
 one_pair a b is = cc
 
 -- after an append there may be what was left before it, or more of the whole
-may_grown : (base : Files) (past : List Effect) (e : Effect) (file : File) (path bytes least x : List ℕ) → Some (path, bytes) ≡ added_in e → is_file (names_after base past path) file ≡ true
+pub may_grown : (base : Files) (past : List Effect) (e : Effect) (file : File) (path bytes least x : List ℕ) → Some (path, bytes) ≡ added_in e → is_file (names_after base past path) file ≡ true
     → MayBytes base past file least → ((x ≡ least) ⊎ IsFrontFrom least (bytes_after base past file ++ bytes) x) → MayBytes base (e ∷ past) file x
 may_grown base past (Added other more) file path bytes least x is at may (inl same) = inr (inl (subst (MayBytes base past file) (sym same) may))
 may_grown base past (Added other more) file path bytes least x is at may (inr front) =
@@ -181,7 +181,7 @@ if_ok_always (Ok x) all = all x
 if_ok_always (Err fault) all = tt
 
 -- ---- fronts
-split : (left whole more : List ℕ) → pointwise nat_eq (take (length left) whole) left ≡ true → more ≡ drop (length left) whole → whole ≡ left ++ more
+pub split : (left whole more : List ℕ) → pointwise nat_eq (take (length left) whole) left ≡ true → more ≡ drop (length left) whole → whole ≡ left ++ more
 split left whole more same more_is =
     sym (take-append-drop (length left) whole) ∙ ap (λ (xs : List ℕ). xs ++ drop (length left) whole) (one_text (take (length left) whole) left same) ∙ ap (λ (xs : List ℕ). left ++ xs) (sym more_is)
 

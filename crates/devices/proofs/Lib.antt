@@ -1,5 +1,8 @@
 pub mod ByteLemmas
+pub mod ChosenLemmas
 pub mod CopyLemmas
+mod Examples
 pub mod LossLemmas
 pub mod NameLemmas
+pub mod SeenLemmas
 pub mod TreeLemmas

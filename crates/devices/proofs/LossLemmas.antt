@@ -92,7 +92,7 @@ module _ (base : Files) (fates : List Fate) (whole : List Effect) where
   same_both false o = refl
 
   -- the names that are left may be left
-  may_left : (newer past : List Effect) → whole ≡ newer ++ past → MayNames base past (left_names base kept past)
+  pub may_left : (newer past : List Effect) → whole ≡ newer ++ past → MayNames base past (left_names base kept past)
   may_left newer [] is = λ q. refl
   may_left newer (Wrote path bytes ∷ past) is = may_step base past (Wrote path bytes) _ _ _ (may_left (newer ++ Wrote path bytes ∷ []) past (is ∙ sym (append_assoc newer _ past))) refl (λ q. refl)
   may_left newer (Added path bytes ∷ past) is = may_step base past (Added path bytes) _ _ _ (may_left (newer ++ Added path bytes ∷ []) past (is ∙ sym (append_assoc newer _ past))) refl (λ q. refl)
@@ -196,7 +196,7 @@ placed_first base past m path key paths others given left new is key_is new_is s
     subst (λ (ps : List (List ℕ)). ArePlaced base past m ps new) (sym is)
     (subst (ArePlaced base past m (path ∷ others)) (sym (new_is ∙ ap (λ (k : List ℕ). put_there left k given) key_is)) (placed_more base past m path others given left stands placed))
 
-key_among : (path : List ℕ) (paths : List (List ℕ)) → list_any (pointwise nat_eq path) paths ≡ true → list_any (eq_by_cmp name_cmp path) paths ≡ true
+pub key_among : (path : List ℕ) (paths : List (List ℕ)) → list_any (pointwise nat_eq path) paths ≡ true → list_any (eq_by_cmp name_cmp path) paths ≡ true
 key_among path [] is = absurd (cc)
 key_among path (first ∷ paths) is = by (pointwise nat_eq path first) refl is (key_among path paths)
   where

@@ -101,14 +101,14 @@ both : (a b : Bool) → (a && b) ≡ true → (a ≡ true) × (b ≡ true)
 both true b is = (refl, is)
 both false b is = absurd (cc)
 
-begun : (folder rest : List ℕ) → pointwise nat_eq (take (length folder) (folder ++ rest)) folder ≡ true
+pub begun : (folder rest : List ℕ) → pointwise nat_eq (take (length folder) (folder ++ rest)) folder ≡ true
 begun folder rest = ap (λ (x : List ℕ). pointwise nat_eq x folder) (take_all folder rest) ∙ same_text folder
   where
     take_all : (xs ys : List ℕ) → take (length xs) (xs ++ ys) ≡ xs
     take_all [] ys = refl
     take_all (x ∷ xs) ys = ap (λ (zs : List ℕ). x ∷ zs) (take_all xs ys)
 
-behind : (xs ys : List ℕ) → drop (length xs) (xs ++ ys) ≡ ys
+pub behind : (xs ys : List ℕ) → drop (length xs) (xs ++ ys) ≡ ys
 behind [] ys = refl
 behind (x ∷ xs) ys = behind xs ys
 

@@ -1,11 +1,11 @@
 -- What is left of a device by a choice of what a loss of power keeps (own). An effect's place is the number of effects before it.
-use Rattle.std.specs.Prelude.{◌≡◌, ◌⊎◌, ◌||◌, ℕ, suc, Bool, true, false, not, cond, List, [], ◌∷◌, ◌++◌, Option, Some, None, length, nat_eq, nat_le, option_and_then}
+use Rattle.std.specs.Prelude.{◌≡◌, ◌⊎◌, ◌||◌, ℕ, suc, Bool, true, false, not, cond, List, [], ◌∷◌, ◌++◌, Option, Some, None, length, take, drop, replicate, nat_eq, nat_le, option_and_then, option_map}
 use Rattle.std.specs.FinMap.{get, keys}
 use Rattle.std.specs.List.{list_any, slice_get}
 use Rattle.std.specs.Ordering.{eq_by_cmp}
 use Rattle.std.specs.Cmp.Lexicographic.{pointwise}
-use Rattle.devices.specs.Crash.{File, Names, Stands, first_names, names_after, is_file, has_failed, folder_has_failed}
-use Rattle.devices.specs.Device.{Files, Effect, Wrote, Added, Moved, Removed, SyncedFile, SyncedFolder, FailedFile, FailedFolder, name_in_folder}
+use Rattle.devices.specs.Crash.{File, Names, Stands, first_names, names_after, bytes_after, is_file, has_failed, folder_has_failed}
+use Rattle.devices.specs.Device.{Files, Effect, Wrote, Added, Moved, Removed, SyncedFile, SyncedFolder, FailedFile, FailedFolder, bytes_or_none, name_in_folder}
 use Rattle.git_name.specs.Name.{name_cmp}
 use Rattle.devices.specs.declared.fate.Fate.{Fate}
 
@@ -178,6 +178,36 @@ is_chosen (Some fate) = fate.is_kept
 -- the changes of names that are kept: those that were synced, and those that are chosen
 abbrev pub kept_in : List Fate → List Effect → Effect → ℕ → Bool
 kept_in fates whole effect place = cond (is_chosen (slice_get fates place)) true (is_synced whole effect place)
+
+-- of bytes that were written, as many as a fate says: all without one
+abbrev pub front_by : Option Fate → List ℕ → List ℕ
+front_by None bytes = bytes
+front_by (Some fate) bytes = take fate.bytes bytes
+
+-- of bytes with which a file was made: a front of them, and then other bytes, as a fate says
+abbrev pub damaged_by : Option Fate → List ℕ → List ℕ
+damaged_by None bytes = bytes
+damaged_by (Some fate) bytes = take fate.bytes bytes ++ replicate fate.others fate.other
+
+-- after an append: what was left before it, and as much of the rest of the whole as a fate says, if the whole begins so
+abbrev pub grown_by : Option Fate → List ℕ → List ℕ → List ℕ
+grown_by fate left whole = cond (pointwise nat_eq (take (length left) whole) left) (left ++ front_by fate (drop (length left) whole)) left
+
+-- the bytes that are left in a file: of each effect since the last sure sync of the file, what its fate says
+abbrev pub left_bytes : Files → List Fate → List Effect → File → List ℕ
+left_bytes base fates [] file = bytes_or_none (get base file.0)
+left_bytes base fates (Wrote path bytes ∷ past) file = cond (nat_eq file.1 (suc (length past))) (damaged_by (slice_get fates (length past)) bytes) (left_bytes base fates past file)
+left_bytes base fates (Added path bytes ∷ past) file = cond (nat_eq file.1 (suc (length past))) (damaged_by (slice_get fates (length past)) bytes) (cond (is_file (names_after base past path) file) (grown_by (slice_get fates (length past)) (left_bytes base fates past file) (bytes_after base past file ++ bytes)) (left_bytes base fates past file))
+left_bytes base fates (Moved from to ∷ past) file = left_bytes base fates past file
+left_bytes base fates (Removed path ∷ past) file = left_bytes base fates past file
+left_bytes base fates (SyncedFile path ∷ past) file = cond (is_sure base past (Some path) file) (bytes_after base past file) (left_bytes base fates past file)
+left_bytes base fates (SyncedFolder folder ∷ past) file = left_bytes base fates past file
+left_bytes base fates (FailedFile path ∷ past) file = left_bytes base fates past file
+left_bytes base fates (FailedFolder folder ∷ past) file = left_bytes base fates past file
+
+-- what is left at a path
+abbrev pub left_at : Files → List Fate → List Effect → List ℕ → Option (List ℕ)
+left_at base fates past path = option_map (left_bytes base fates past) (left_names base (kept_in fates past) past path)
 
 -- these paths, and one more if there is one
 abbrev pub with_target : List (List ℕ) → Option (List ℕ) → List (List ℕ)

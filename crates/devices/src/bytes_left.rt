@@ -1,9 +1,9 @@
-ghost use Rattle.std.specs.Prelude.{◌≡◌, ◌⊎◌, IfOk, None, option_map};
+ghost use Rattle.std.specs.Prelude.{◌≡◌, ◌⊎◌, ◌++◌, IfOk, OnOk, None, option_map, replicate};
 ghost use Rattle.std.specs.FinMap as map;
 ghost use Rattle.std.specs.Option.{option_copied};
 ghost use Rattle.devices.specs.Crash.{MayBytes, IsFrontFrom, bytes_after, has_failed, is_file, names_after};
 ghost use Rattle.devices.specs.Device.{bytes_or_none};
-ghost use Rattle.devices.specs.Loss.{is_sure, made_in, synced_in};
+ghost use Rattle.devices.specs.Loss.{damaged_by, grown_by, is_sure, left_bytes, made_in, synced_in};
 ghost use Rattle.devices.specs.Note.{effect_of, effects_of};
 
 use crate::fate::Fate;
@@ -95,21 +95,32 @@ fn is_sure(base: &Tree, past: &[Note], note: &Note, file: &(&Text, usize)) -> bo
     !has_failed(base, past, file)
 }
 
+// Adds a byte so many times.
+fn add_times(bytes: &mut Vec<u8>, byte: u8, times: usize) -> Result<(), AllocError>
+    ensures { OnOk result (bytes.new.items ≡ bytes.old.items ++ replicate times byte) }
+{
+    for _ in 0..times {
+        bytes.push(byte)?;
+    }
+    Ok(())
+}
+
 // What a loss leaves of bytes with which a file was made.
-fn damaged(alloc: Global, bytes: &[u8], fate: Option<&Fate>) -> Result<Vec<u8>, AllocError> {
+fn damaged(alloc: Global, bytes: &[u8], fate: Option<&Fate>) -> Result<Vec<u8>, AllocError>
+    ensures { IfOk result (λ left. left.items ≡ damaged_by (option_copied fate.entry) bytes.now) }
+{
     let Some(fate) = fate else {
         return bytes.to_vec(alloc);
     };
     let mut left = bytes[..bytes.len().min(fate.bytes)].to_vec(alloc)?;
-    for _ in 0..fate.others {
-        left.push(fate.other)?;
-    }
+    add_times(&mut left, fate.other, fate.others)?;
     Ok(left)
 }
 
 // The bytes that are left, and a front of those that follow them in the whole, unless it begins otherwise.
 fn grown(mut left: Vec<u8>, whole: &[u8], fate: Option<&Fate>) -> Result<Vec<u8>, AllocError>
-    ensures { IfOk result (λ bytes. (bytes.items ≡ left.items) ⊎ IsFrontFrom left.items whole.now bytes.items) }
+    ensures may { IfOk result (λ bytes. (bytes.items ≡ left.items) ⊎ IsFrontFrom left.items whole.now bytes.items) }
+    ensures chosen { IfOk result (λ bytes. bytes.items ≡ grown_by (option_copied fate.entry) left.items whole.now) }
 {
     let Some(more) = whole.strip_prefix(left.as_slice()) else {
         return Ok(left);
@@ -130,7 +141,8 @@ pub(crate) fn left_bytes(
     notes: &[Note],
     file: &(&Text, usize),
 ) -> Result<Vec<u8>, AllocError>
-    ensures { IfOk result (λ bytes. MayBytes base.now (effects_of notes.now) (file.now.0.now, file.now.1) bytes.items) }
+    ensures may { IfOk result (λ bytes. MayBytes base.now (effects_of notes.now) (file.now.0.now, file.now.1) bytes.items) }
+    ensures chosen { IfOk result (λ bytes. bytes.items ≡ left_bytes base.now fates.now (effects_of notes.now) (file.now.0.now, file.now.1)) }
 {
     let Some((note, past)) = notes.split_first() else {
         return first_bytes(alloc, base, file.0);

@@ -6,6 +6,7 @@ mod bytes_left;
 mod device;
 mod fate;
 mod kept;
+mod laws;
 mod left;
 mod lent;
 mod loss;
@@ -20,6 +21,7 @@ mod tree;
 
 pub use crate::device::{Device, DeviceFault};
 pub use crate::fate::Fate;
+pub use crate::laws::{no_fates_lose_nothing, what_fates_choose_may_be_left};
 pub use crate::memory::Memory;
 pub use crate::real::Real;
 pub use crate::std_files::{

@@ -1,7 +1,8 @@
-ghost use Rattle.std.specs.Prelude.{◌≡◌, ◌∷◌, ◌++◌, [], drop, OnOk, OnErr, IfOk, Some, None, true, option_and_then, option_map};
+ghost use Rattle.std.specs.Prelude.{◌≡◌, ◌∷◌, ◌++◌, [], List, ℕ, drop, OnOk, OnErr, IfOk, Some, None, true, option_and_then, option_map};
 ghost use Rattle.std.specs.FinMap as map;
 ghost use Rattle.devices.specs.Device.{bytes_or_none, part_of, put_there, within};
 ghost use Rattle.devices.specs.Crash.{MayLeave};
+ghost use Rattle.devices.specs.Loss.{left_at};
 ghost use Rattle.devices.specs.Note.{Make, effects_of, past_of};
 
 use crate::device::{Device, DeviceFault};
@@ -179,6 +180,7 @@ impl Memory {
     /// on, where a sync that failed is an effect too. An effect that has none is left whole, so no fates lose nothing.
     pub fn lose_power(&self, fates: &[Fate]) -> Result<Memory, AllocError>
         ensures may { IfOk result (λ left. MayLeave self.now.base (effects_of self.now.notes.items) left.base) }
+        ensures chosen { IfOk result (λ left. (path : List ℕ) → map.get left.base path ≡ left_at self.now.base fates.now (effects_of self.now.notes.items) path) }
         ensures begun { IfOk result (λ left. left.notes.items ≡ []) }
     {
         let base = left_files(self.alloc, &self.base, fates, self.notes.as_slice())?;

@@ -96,6 +96,14 @@ impl Accounts {
         self.tenants.contains_key(name)
     }
 
+    // How many references a tenant's repositories and offers have, up to 2^64 - 1.
+    pub(crate) fn reference_count(&self, name: &TenantName) -> u64 {
+        match self.tenants.get(name) {
+            Some(tenant) => tenant.reference_count(),
+            None => 0,
+        }
+    }
+
     // Puts a new account under a name.
     pub(crate) fn insert(
         &mut self,

@@ -122,6 +122,11 @@ impl<S: LooseFiles> Host<S> {
         self.vault.seen_count(tenant)
     }
 
+    /// How many references a tenant's repositories and offers have, up to 2^64 - 1. Takes time linear in the number of these.
+    pub fn reference_count(&self, tenant: &TenantName) -> u64 {
+        self.accounts.reference_count(tenant)
+    }
+
     /// What outlives the host's process: the limit of each tenant, its repositories, the names of the objects that it
     /// sees, and its offers. Open uploads are not in it.
     pub fn states(&self, alloc: Global) -> Result<States, NoMemory>

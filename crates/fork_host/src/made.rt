@@ -142,6 +142,15 @@ impl Made {
         Ok(())
     }
 
+    // How many references the offers have, up to 2^64 - 1.
+    pub(crate) fn reference_count(&self) -> u64 {
+        let mut count: u64 = 0;
+        for repository in self.offers.values() {
+            count = count.saturating_add(repository.references().len() as u64);
+        }
+        count
+    }
+
     // Appends a copy of each to the offers of their giver's state.
     pub(crate) fn keep(&self, state: &mut TenantState) -> Result<(), AllocError>
         requires none { state.old.offers ≡ [] }

@@ -60,11 +60,13 @@ fn visits_all(payload: &[u8]) -> bool {
     }
 }
 
-/// How many objects a frame that was just answered visits when it is repeated, beside those that a `prune` removed: at
-/// most those that its tenant sees now.
+/// How many objects and references a frame that was just answered visits when it is repeated, beside what a `prune` removed: at
+/// most the objects that its tenant sees now, and its references.
 pub(crate) fn visited_by<S: LooseFiles>(host: &Host<S>, frame: &Frame) -> u64 {
     match &frame.asker {
-        Asker::Tenant(name) if visits_all(frame.payload.as_bytes()) => host.seen_count(name) as u64,
+        Asker::Tenant(name) if visits_all(frame.payload.as_bytes()) => {
+            (host.seen_count(name) as u64).saturating_add(host.reference_count(name))
+        }
         _ => 0,
     }
 }

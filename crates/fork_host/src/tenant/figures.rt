@@ -48,6 +48,12 @@ impl Tenant {
         ]
     }
 
+    // How many references its repositories and its offers have, up to 2^64 - 1.
+    pub(crate) fn reference_count(&self) -> u64 {
+        let own = u64::try_from(self.repositories.reference_count()).unwrap_or(u64::MAX);
+        own.saturating_add(self.made.reference_count())
+    }
+
     // How many bytes of its open upload came, and 0 if none is open.
     fn uploaded(&self) -> u64
         ensures { (own : Private) → result ≡ uploaded (seen_by self.now own).upload }

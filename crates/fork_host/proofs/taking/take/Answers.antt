@@ -168,5 +168,5 @@ returns-then-is_done-clause-own g c =
       same = same_then first staged mid same c.settle-reply.ensures.same;
       own = own_then t first.vault.now staged.vault.now mid.vault.now c.stage_all.ensures.own (of_first first staged (λ t. IsOwn t staged.vault.now mid.vault.now) same c.settle-reply.ensures.own);
       grows = grows_then names first.vault.now.places staged.vault.now.places mid.vault.now.places c.stage_all.ensures.grows (grows_same names staged.vault.now.places mid.vault.now.places c.settle-reply.ensures.places);
-      staged = still_none first.vault.now mid.vault.now t c.requires.quiet (of_first first staged (λ t. staged_in mid.vault.now t ≡ empty) same (c.settle-reply.ensures.none (sym c.is_done.ensures ∙ c.then-is_done.true)));
+      staged = still_none first.vault.now mid.vault.now t c.requires.quiet (of_first first staged (λ t. staged_in mid.vault.now t ≡ empty) same (c.settle-reply.ensures.none (sym c.is_done.ensures ∙ c.if-is_done.true)));
     }

@@ -4,8 +4,8 @@ use Rattle.packed_store.proofs.LastingLemmas.{all_taken}
 use Rattle.packed_store.proofs.RemovalLemmas.{end_kept, segments_kept}
 use Rattle.packed_store.proofs.log.Log.remove_segment.Goals as goal
 
-pub invariant_of-self-in-Break-branch-3 : goal.invariant_of-self-in-Break-branch-3
-invariant_of-self-in-Break-branch-3 g c = record {
+pub invariant_of-self : goal.invariant_of-self
+invariant_of-self g c = record {
   path_is = search rules;
   end_is = λ torn honest.
       let first = sym c.remove_at.ensures.honest ∙ honest in

@@ -40,7 +40,7 @@ def told_in(crate, text):
             goals.append(found[1])
             false += [found[1]] if "allow values" in found[2] else []
         elif found := ERROR.match(line):
-            told.setdefault(found[1].replace("/", "::"), Told()).errors.append((found[3] or "", found[2]))
+            told.setdefault(found[1].replace("/+", "::").replace("/", "::"), Told()).errors.append((found[3] or "", found[2]))
         elif (found := VERDICT.match(line)) and found[1] == crate:
             if line.startswith("fn "):
                 one = told.setdefault(found[2], Told())

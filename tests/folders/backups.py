@@ -111,7 +111,7 @@ class Copying:
         page = commands(block("docs/OPERATING.md", "Backup", "forkhost check"))
         self.script = change(page)
         self.is_changed = self.script != page
-        self.script = self.script.replace("/var/lib/forkhost/host", busy.folder.path).replace("/backup/host", self.place)
+        self.script = self.script.replace("/var/lib/forkhost/host", busy.folder.path).replace("/backup/new", self.place + ".new").replace("/backup/host", self.place)
         self.environment = {**os.environ, "PATH": os.pathsep.join([tools, os.environ["PATH"]])}
 
     def run(self, happens):
@@ -177,22 +177,22 @@ HAPPENINGS = {
 }
 STEPS = ["state", "journal", "objects", "after objects"]
 BEFORE, LOGS = "before=$(now)", "$(ls | grep uploads)"
-OBJECTS = "if test -e segments; then cp -a segments /backup/host; else files; fi"
-COPIES = f"{BEFORE} &&\n  cp -a state journal {LOGS} /backup/host &&\n  {OBJECTS}"
+OBJECTS = "if test -e segments; then cp -a segments /backup/new; else files; fi"
+COPIES = f"{BEFORE} &&\n  cp -a state journal {LOGS} /backup/new &&\n  {OBJECTS}"
 LOOK = ' && test "$before" = "$(now)"\n'
 LOOK_AT_LOGS = "stat -c %i:%w uploads.* 2> /dev/null; "
 # Wrong commands; what happens to show it, and before which step; and how the copy is refused.
 WRONG = {
     "objects first": (
-        (COPIES, f"{OBJECTS} && {BEFORE} && cp -a state journal {LOGS} /backup/host"),
+        (COPIES, f"{OBJECTS} && {BEFORE} && cp -a state journal {LOGS} /backup/new"),
         ("objects come, and the state is saved", "after objects", b"lost "),
     ),
     "the journal before the state": (
-        (COPIES, f"cp -a journal {LOGS} /backup/host && {BEFORE} && cp -a state /backup/host && {OBJECTS}"),
+        (COPIES, f"cp -a journal {LOGS} /backup/new && {BEFORE} && cp -a state /backup/new && {OBJECTS}"),
         ("objects come, and the state is saved", "after journal", b"journal of another state"),
     ),
     "swept before objects": (
-        (COPIES, f"{BEFORE} && cp -a state journal {LOGS} /backup/host && {{ test ! -e swept || cp -a swept /backup/host; }} && cp -a objects /backup/host"),
+        (COPIES, f"{BEFORE} && cp -a state journal {LOGS} /backup/new && {{ test ! -e swept || cp -a swept /backup/new; }} && cp -a objects /backup/new"),
         ("objects go", "objects", b"lost "),
     ),
     "without the look at the state": ((LOOK, "\n"), ("objects go, and the state is saved", "after journal", b"lost ")),

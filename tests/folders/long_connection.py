@@ -15,6 +15,8 @@ LONG, PART, COUNT = 1_048_576, 1_000_000, 10
 # Objects that the requests of a journal may visit, and those that a pruning visits here.
 VISITED, MANY = 16_777_216, 8_000
 PRUNES = VISITED // MANY + 400
+# Forks of a repository with 4,096 references.
+FORKS = 31
 DROP = b"part-drop\n"
 
 
@@ -47,17 +49,13 @@ def show_long_connection(checks, program, work):
     checks.same("the next start has it", done(framed(b"no repository-exists r\n")), program.ran("run", "--dir", folder.path, given=frame(ALICE, b"init r\n")))
 
 
-def pruned(checks, program, work, who):
-    """How many requests a start has to repeat, after a tenant has pruned often beside a tree of many objects, which alice has."""
+def pruned(checks, program, work, begun, who, prunes):
+    """How many requests a start has to repeat, after a tenant of this host has pruned so often."""
     folder, path = Folder(os.path.join(work, "pruned")), os.path.join(work, "socket")
-    blobs = [b"%d" % number for number in range(MANY)]
-    tree = b"".join(b"100644 %05d\0" % at + bytes.fromhex(name_of(b"blob", blob).decode()) for at, blob in enumerate(blobs))
-    tag = b"push r\ncreate refs/tags/t " + name_of(b"tree", tree) + b"\n\n"
-    begun = [(ALICE, b"init r\n"), (BOB, b"init r\n"), (ALICE, tag + b"".join(record(b"blob", it) for it in blobs) + record(b"tree", tree))]
     made = program.ran("run", "--dir", folder.path, "alice=100000000", "bob=1000", given=frames(begun))
-    checks.same("a folder", done(framed(b"ok\n") * 3), made)
+    checks.same("a folder", done(framed(b"ok\n") * len(begun)), made)
     serving = Serving(program, path, 1, "--dir", folder.path)
-    turns = [(who, b"push r\n\n" + record(b"blob", b"x")), (who, b"prune\n")] * PRUNES
+    turns = [(who, b"push r\n\n" + record(b"blob", b"x")), (who, b"prune\n")] * prunes
     with serving.client() as stream, stream.makefile("rb") as reader:
         sending = threading.Thread(target=stream.sendall, args=(frames(turns),))
         sending.start()
@@ -74,8 +72,23 @@ def pruned(checks, program, work, who):
 def show_many_prunes(checks, program, work):
     """Requests that are short and visit all objects of a tenant: a start has few of them to repeat. They cost the others no saving
     if the tenant has few objects."""
+    blobs = [b"%d" % number for number in range(MANY)]
+    tree = b"".join(b"100644 %05d\0" % at + bytes.fromhex(name_of(b"blob", blob).decode()) for at, blob in enumerate(blobs))
+    tag = b"push r\ncreate refs/tags/t " + name_of(b"tree", tree) + b"\n\n"
+    begun = [(ALICE, b"init r\n"), (BOB, b"init r\n"), (ALICE, tag + b"".join(record(b"blob", it) for it in blobs) + record(b"tree", tree))]
     for who in (ALICE, BOB):
         os.mkdir(place := os.path.join(work, who.decode()))
-        again = pruned(checks, program, place, who)
+        again = pruned(checks, program, place, begun, who, PRUNES)
         few, all_of_them = range(1, 2 * (VISITED // MANY) + 400), [2 * PRUNES]
         checks.same(f"{who}: a start repeats {again}", True, again in (few if who == ALICE else all_of_them))
+
+
+def show_prunes_of_references(checks, program, work):
+    """The same of a tenant with one object and many references."""
+    name = name_of(b"blob", b"kept")
+    tags = [b"".join(b"create refs/tags/%d %s\n" % (at, name) for at in range(first, first + 256)) for first in range(0, 4096, 256)]
+    begun = [(BOB, b"init r\n"), (BOB, b"push r\n\n" + record(b"blob", b"kept"))]
+    begun += [(BOB, b"update-refs r\n" + it) for it in tags] + [(BOB, b"fork r f%d\n" % number) for number in range(FORKS)]
+    enough = VISITED // (4096 * (FORKS + 1))
+    again = pruned(checks, program, work, begun, BOB, enough + 40)
+    checks.same(f"a start repeats {again}", True, again in range(1, 2 * enough))

@@ -11,7 +11,6 @@ pub mod NotedLemmas
 pub mod OpeningLemmas
 pub mod PlaceLemmas
 pub mod RewritingLemmas
-pub mod SeenLemmas
 pub mod StandingLemmas
 pub mod StepLemmas
 pub mod SweptLemmas

@@ -11,7 +11,7 @@ use Rattle.folder_store.proofs.PlaceLemmas.{same_text}
 use Rattle.folder_store.specs.Lasting.{as_read, HasSureBytes, IsLasting, IsPlaceSafe, IsSafe, IsSafeAt, Lasts}
 use Rattle.folder_store.proofs.LossLemmas.{IsOfNames, seen_may, set_here, set_other, older, stood_at}
 use Rattle.folder_store.proofs.LastingLemmas.{IsOff, part_off, lasts_off, lasts_unplaced, by_swept, safe_at_off, places_apart, part_off_place, part_off_swept, place_off_swept, swept_off_place, removed_here, put_off}
-use Rattle.folder_store.proofs.SeenLemmas.{seen_bytes}
+use Rattle.devices.proofs.SeenLemmas.{seen_bytes}
 
 -- ---- calls
 -- the property is kept by an effect, and by what a call that fails may have done of it

@@ -16,7 +16,7 @@ use Rattle.folder_store.specs.Moments.{HoldsAtEach, Throughout, past_with}
 use Rattle.folder_store.proofs.ContentLemmas.{clash}
 use Rattle.folder_store.proofs.ListingLemmas.{no_slash}
 use Rattle.folder_store.proofs.PlaceLemmas.{at_home, part_lengths, place_has, one_text}
-use Rattle.folder_store.proofs.SeenLemmas.{seen_bytes}
+use Rattle.devices.proofs.SeenLemmas.{seen_bytes}
 use Rattle.folder_store.proofs.StepLemmas.{unseen}
 
 -- ---- what syncs change

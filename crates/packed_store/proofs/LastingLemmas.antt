@@ -18,7 +18,7 @@ use Rattle.packed_store.specs.Place.{eight_digits, segment_of, segment_path}
 use Rattle.packed_store.specs.declared.place.TheConstants.{LAST_SEGMENT}
 use Rattle.packed_store.proofs.GrowthLemmas as growth
 use Rattle.packed_store.proofs.RemovalLemmas.{one_segment}
-use Rattle.packed_store.proofs.SeenLemmas.{not_true, seen_bytes}
+use Rattle.devices.proofs.SeenLemmas.{not_true, seen_bytes}
 use Rattle.packed_store.proofs.SureLemmas.{all_narrowed, folder_unfailed, sure_grown, sure_taken, unfailed_grown, unfailed_taken}
 
 -- ---- segments are in their folder

@@ -1,4 +1,3 @@
-pub mod AgeLemmas
 pub mod AppendLemmas
 pub mod ClaimLemmas
 pub mod ContentLemmas
@@ -12,7 +11,6 @@ pub mod OpeningLemmas
 pub mod ReadingLemmas
 pub mod RefusalLemmas
 pub mod RemovalLemmas
-pub mod SeenLemmas
 pub mod StoredLemmas
 pub mod SureLemmas
 pub mod SurveyLemmas

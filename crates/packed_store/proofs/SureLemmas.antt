@@ -8,8 +8,7 @@ use Rattle.devices.proofs.ByteLemmas.{the_file}
 use Rattle.devices.proofs.NameLemmas.{same_text}
 use Rattle.packed_store.specs.Lasting.{AreSure, HasSureBytes, HaveNoFailure, IsUnfailed, Narrows}
 use Rattle.packed_store.specs.Place.{segment_path}
-use Rattle.packed_store.proofs.AgeLemmas.{either_of, seen_aged, set_other}
-use Rattle.packed_store.proofs.SeenLemmas.{clash, not_true, one_path}
+use Rattle.devices.proofs.SeenLemmas.{clash, either_of, not_true, one_path, seen_aged, set_other}
 
 -- ---- syncs that failed
 pub file_unfailed : (base : Files) (past : List Effect) (f : File) → HaveNoFailure past → has_failed base past f ≡ false

@@ -12,15 +12,23 @@ pub(crate) const PART: &str = "part";
 /// The folder of objects, in a host's folder.
 pub(crate) const OBJECTS: &str = "objects/";
 
-/// The path of the folder for files whose names begin with these bytes.
-pub(crate) fn home_of(alloc: Global, first: &[u8]) -> Result<String, AllocError>
-    ensures { IfOk result (λ path. string_bytes path ≡ home_with first.now) }
+// The path of what is called so in the folder for files whose names begin with these bytes.
+fn in_home(alloc: Global, first: &[u8], called: &str) -> Result<String, AllocError>
+    ensures { IfOk result (λ path. string_bytes path ≡ codes "objects/" ++ encode_lower first.now ++ 47 ∷ called.now) }
 {
     let front = hex::encode(alloc, first)?;
     let mut path = String::from_str(alloc, "objects/")?;
     path.push_str(front.as_str())?;
     path.push_str("/")?;
+    path.push_str(called)?;
     Ok(path)
+}
+
+/// The path of the folder for files whose names begin with these bytes.
+pub(crate) fn home_of(alloc: Global, first: &[u8]) -> Result<String, AllocError>
+    ensures { IfOk result (λ path. string_bytes path ≡ home_with first.now) }
+{
+    in_home(alloc, first, "")
 }
 
 // The digits of a name that its file is called by: all but the first two.
@@ -36,18 +44,14 @@ pub(crate) fn path_of(alloc: Global, name: Name) -> Result<String, AllocError>
     ensures name { IsName name }
 {
     let rest = rest_of(alloc, name)?;
-    let mut path = home_of(alloc, &name.as_bytes()[..1])?;
-    path.push_str(rest.as_str())?;
-    Ok(path)
+    in_home(alloc, &name.as_bytes()[..1], rest.as_str())
 }
 
 /// The path of the file of a name while it is written.
 pub(crate) fn part_path(alloc: Global, name: Name) -> Result<String, AllocError>
     ensures { IfOk result (λ path. string_bytes path ≡ part_of name) }
 {
-    let mut path = home_of(alloc, &name.as_bytes()[..1])?;
-    path.push_str(PART)?;
-    Ok(path)
+    in_home(alloc, &name.as_bytes()[..1], PART)
 }
 
 /// The path of the swept file of a name.

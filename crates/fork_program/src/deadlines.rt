@@ -53,28 +53,28 @@ pub struct TimedConnection<'a, H> {
     clock: &'a H,
     stream: &'a UnixStream,
     awaited: Cell<Awaited>,
-    // If more bytes than this have come, the connection pauses before the next frame.
+    // If more bytes than this were taken, the connection pauses before the next frame.
     most: u64,
-    // How many bytes have come since the last pause.
-    came: Cell<u64>,
+    // How many bytes were taken since the last pause.
+    taken: Cell<u64>,
 }
 
 impl<'a, H: Clock> TimedConnection<'a, H> {
-    /// A connection on which nothing has come yet. It pauses before a frame if more than `most` bytes have come.
+    /// A connection of which nothing was taken yet. It pauses before a frame if more than `most` bytes were taken.
     pub fn new(clock: &'a H, stream: &'a UnixStream, most: u64) -> TimedConnection<'a, H> {
         TimedConnection {
             clock,
             stream,
             awaited: Cell::new(Awaited::Beginning),
             most,
-            came: Cell::new(0),
+            taken: Cell::new(0),
         }
     }
 
-    // Whether the next frame has not begun, and enough bytes have come before it for a pause.
+    // Whether the next frame has not begun, and enough bytes were taken before it for a pause.
     fn is_due(&self) -> bool {
         match self.awaited.get() {
-            Awaited::Beginning => self.came.get() > self.most,
+            Awaited::Beginning => self.taken.get() > self.most,
             _ => false,
         }
     }
@@ -83,7 +83,7 @@ impl<'a, H: Clock> TimedConnection<'a, H> {
     pub fn goes_on(&self) -> bool {
         let due = self.is_due();
         if due {
-            self.came.set(0);
+            self.taken.set(0);
         }
         due
     }
@@ -102,8 +102,9 @@ impl<'a, H: Clock> TimedConnection<'a, H> {
         }
     }
 
-    // Notes that part of a frame has come.
-    fn begin(&self) -> io::Result<()> {
+    // Notes that so many bytes of a frame were taken.
+    fn take(&self, count: u64) -> io::Result<()> {
+        self.taken.set(self.taken.get().saturating_add(count));
         match self.awaited.get() {
             Awaited::Rest(_) => Ok(()),
             _ => {
@@ -139,10 +140,7 @@ impl<H: Clock> Read for Coming<'_, H> {
         };
         self.connection.stream.set_read_timeout(left)?;
         let mut stream = self.connection.stream;
-        let n = stream.read(buf)?;
-        let came = self.connection.came.get().saturating_add(n as u64);
-        self.connection.came.set(came);
-        Ok(n)
+        stream.read(buf)
     }
 }
 
@@ -168,7 +166,7 @@ impl<H: Clock> Read for Frames<'_, H> {
         }
         let n = self.coming.read(buf)?;
         if n > 0 {
-            self.connection.begin()?;
+            self.connection.take(n as u64)?;
         }
         Ok(n)
     }

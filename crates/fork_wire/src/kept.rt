@@ -7,7 +7,7 @@ ghost use Rattle.fork_wire.specs.Kept.{is_part_end as may_end, is_kept, kept_one
 use crate::journal::Journal;
 use fork_frame::{Asker, Frame};
 use fork_host::Host;
-use fork_request::{Reply, Request};
+use fork_request::{Reply, Request, TenantName};
 use loose_store::LooseFiles;
 
 // Whether the request only asks.
@@ -60,13 +60,16 @@ fn visits_all(payload: &[u8]) -> bool {
     }
 }
 
+// How many objects a tenant sees, and how many references it has.
+fn all_of<S: LooseFiles>(host: &Host<S>, tenant: &TenantName) -> u64 {
+    (host.seen_count(tenant) as u64).saturating_add(host.reference_count(tenant))
+}
+
 /// How many objects and references a frame that was just answered visits when it is repeated, beside what a `prune` removed: at
 /// most the objects that its tenant sees now, and its references.
 pub(crate) fn visited_by<S: LooseFiles>(host: &Host<S>, frame: &Frame) -> u64 {
     match &frame.asker {
-        Asker::Tenant(name) if visits_all(frame.payload.as_bytes()) => {
-            (host.seen_count(name) as u64).saturating_add(host.reference_count(name))
-        }
+        Asker::Tenant(name) if visits_all(frame.payload.as_bytes()) => all_of(host, name),
         _ => 0,
     }
 }

@@ -7,12 +7,7 @@ impl<D: Device> Device for &mut D {
 
     ghost honest = { λ device. D.honest device.now };
 
-    fn read(
-        &self,
-        alloc: Global,
-        path: &str,
-        most: u64,
-    ) -> Result<Option<Vec<u8>>, DeviceFault> {
+    fn read(&self, alloc: Global, path: &str, most: u64) -> Result<Option<Vec<u8>>, DeviceFault> {
         (**self).read(alloc, path, most)
     }
 

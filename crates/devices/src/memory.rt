@@ -200,12 +200,7 @@ impl Device for Memory {
 
     ghost honest = { λ _. true };
 
-    fn read(
-        &self,
-        alloc: Global,
-        path: &str,
-        most: u64,
-    ) -> Result<Option<Vec<u8>>, DeviceFault> {
+    fn read(&self, alloc: Global, path: &str, most: u64) -> Result<Option<Vec<u8>>, DeviceFault> {
         if fails(&self.passing) {
             return Err(DeviceFault::Device);
         }

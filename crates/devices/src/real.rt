@@ -44,11 +44,11 @@ fn inside(alloc: Global, folder: &str, path: &str) -> io::Result<String> {
     Ok(whole)
 }
 
-fn told<T: Drop>(answer: io::Result<T>) -> Result<T, DeviceFault> {
-    match answer {
-        Ok(value) => Ok(value),
-        Err(error) if error.kind() == ErrorKind::OutOfMemory => Err(DeviceFault::Memory),
-        Err(_) => Err(DeviceFault::Device),
+// Why a call failed.
+fn fault_of(error: io::Error) -> DeviceFault {
+    match error.kind() {
+        ErrorKind::OutOfMemory => DeviceFault::Memory,
+        _ => DeviceFault::Device,
     }
 }
 
@@ -56,9 +56,9 @@ impl<R: Files<File = File> + Drop> Real<R> {
     /// Locks the folder at this path, which exists. While it is open, another process that opens it gets `Device`. A
     /// process that is killed unlocks it.
     pub fn open(rt: R, alloc: Global, folder: &str) -> Result<Real<R>, DeviceFault> {
-        let path = told(inside(alloc, folder, "lock"))?;
+        let path = inside(alloc, folder, "lock").map_err(fault_of)?;
         let folder = String::from_str(alloc, folder)?;
-        let lock = told(locked(&rt, path.as_str()))?;
+        let lock = locked(&rt, path.as_str()).map_err(fault_of)?;
         Ok(Real {
             rt,
             alloc,
@@ -268,13 +268,8 @@ impl<R: Files<File = File> + AllocGlobal + Clone + Drop> Device for Real<R> {
 
     ghost honest = { λ _. false };
 
-    fn read(
-        &self,
-        alloc: Global,
-        path: &str,
-        most: u64,
-    ) -> Result<Option<Vec<u8>>, DeviceFault> {
-        told(found(self.read_in(alloc, path, most)))
+    fn read(&self, alloc: Global, path: &str, most: u64) -> Result<Option<Vec<u8>>, DeviceFault> {
+        found(self.read_in(alloc, path, most)).map_err(fault_of)
     }
 
     fn read_part(
@@ -284,7 +279,7 @@ impl<R: Files<File = File> + AllocGlobal + Clone + Drop> Device for Real<R> {
         at: u64,
         len: usize,
     ) -> Result<Option<Vec<u8>>, DeviceFault> {
-        match told(found(self.read_part_in(alloc, path, at, len)))? {
+        match found(self.read_part_in(alloc, path, at, len)).map_err(fault_of)? {
             Some(part) => Ok(part),
             None => Ok(None),
         }
@@ -292,25 +287,25 @@ impl<R: Files<File = File> + AllocGlobal + Clone + Drop> Device for Real<R> {
 
     fn write(&mut self, path: &str, bytes: &[u8]) -> Result<(), DeviceFault> {
         self.close();
-        told(self.write_in(path, bytes))
+        self.write_in(path, bytes).map_err(fault_of)
     }
 
     fn append(&mut self, path: &str, bytes: &[u8]) -> Result<(), DeviceFault> {
-        told(self.append_in(path, bytes))
+        self.append_in(path, bytes).map_err(fault_of)
     }
 
     fn rename(&mut self, from: &str, to: &str) -> Result<bool, DeviceFault> {
         self.close();
-        told(self.rename_in(from, to))
+        self.rename_in(from, to).map_err(fault_of)
     }
 
     fn remove(&mut self, path: &str) -> Result<(), DeviceFault> {
         self.close();
-        told(self.remove_in(path))
+        self.remove_in(path).map_err(fault_of)
     }
 
     fn list(&self, alloc: Global, folder: &str) -> Result<Vec<Vec<u8>>, DeviceFault> {
-        told(self.list_in(alloc, folder))
+        self.list_in(alloc, folder).map_err(fault_of)
     }
 
     fn sync_file(&mut self, path: &str) -> Result<(), DeviceFault> {

@@ -15,10 +15,7 @@ const FOLDER_MODE: u32 = 0o700;
 
 /// Whether the file does not exist, or its parent is not a folder.
 pub(crate) fn is_missing(error: &io::Error) -> bool {
-    matches!(
-        error.kind(),
-        ErrorKind::NotFound | ErrorKind::NotADirectory
-    )
+    matches!(error.kind(), ErrorKind::NotFound | ErrorKind::NotADirectory)
 }
 
 /// The answer, or `None` if the file does not exist or its parent is not a folder.

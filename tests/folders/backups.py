@@ -34,14 +34,17 @@ def step(name):
         stream.shutdown(socket.SHUT_WR)
         stream.recv(1)
 def copy(source, place):
-    return subprocess.run([{cp!r}, "-a", source, place], stderr=subprocess.DEVNULL).returncode
+    return subprocess.run([{cp!r}, sys.argv[1], source, place], stderr=subprocess.DEVNULL).returncode
 *sources, place = sys.argv[2:]
+if {copies_before!r} and "state" not in sources and not os.path.exists(os.path.join(place, "state")):
+    # What is copied before all else.
+    step = lambda name: None
 status = 0
 for source in sources:
     called = source.replace("segments", "objects")
     step(called)
     if called == "objects":
-        os.mkdir(os.path.join(place, source))
+        os.makedirs(os.path.join(place, source), exist_ok=True)
         for name in sorted(os.listdir(source)):
             step(called + "/" + name)
             status |= copy(os.path.join(source, name), os.path.join(place, source))
@@ -104,13 +107,14 @@ class Copying:
         self.listener = socket.socket(socket.AF_UNIX)
         self.listener.bind(os.path.join(busy.work, "steps"))
         self.listener.listen(1)
-        for name, text in {"cp": CP.format(path=self.listener.getsockname(), cp="/bin/cp"), "sleep": "#!/bin/sh\n"}.items():
-            with open(os.path.join(tools, name), "x", encoding="utf-8") as file:
-                file.write(text)
-            os.chmod(os.path.join(tools, name), 0o700)
         page = commands(block("docs/OPERATING.md", "Backup", "forkhost check"))
         self.script = change(page)
         self.is_changed = self.script != page
+        cp = CP.format(path=self.listener.getsockname(), cp="/bin/cp", copies_before=FIRST in self.script)
+        for name, text in {"cp": cp, "sleep": "#!/bin/sh\n"}.items():
+            with open(os.path.join(tools, name), "x", encoding="utf-8") as file:
+                file.write(text)
+            os.chmod(os.path.join(tools, name), 0o700)
         self.script = self.script.replace("/var/lib/forkhost/host", busy.folder.path).replace("/backup/new", self.place + ".new").replace("/backup/host", self.place)
         self.environment = {**os.environ, "PATH": os.pathsep.join([tools, os.environ["PATH"]])}
 
@@ -177,6 +181,7 @@ HAPPENINGS = {
 }
 STEPS = ["state", "journal", "objects", "after objects"]
 BEFORE, LOGS = "before=$(now)", "$(ls | grep uploads)"
+FIRST = "{ test -e segments || files; }"
 OBJECTS = "if test -e segments; then cp -a segments /backup/new; else files; fi"
 COPIES = f"{BEFORE} &&\n  cp -a state journal {LOGS} /backup/new &&\n  {OBJECTS}"
 LOOK = ' && test "$before" = "$(now)"\n'
@@ -226,7 +231,7 @@ def show_wrong_backups(checks, program, work):
         if label == OF_FILES and busy.folder.segments():
             busy.end()
             continue
-        copying = Copying(busy, lambda script: script.replace(old, new))
+        copying = Copying(busy, lambda script: script.replace(FIRST, "true").replace(old, new))
         checks.same(f"{label}: the commands are others", True, copying.is_changed)
         status, output, said, _ = copying.run(once(busy, step, happening))
         last = said.splitlines()[-1:]

@@ -28,6 +28,7 @@ DISTURBED = 2
 CP = """#!/usr/bin/env python3
 import os, socket, subprocess, sys
 def step(name):
+    name = before + name
     with socket.socket(socket.AF_UNIX) as stream:
         stream.connect({path!r})
         stream.sendall(name.encode())
@@ -36,9 +37,8 @@ def step(name):
 def copy(source, place):
     return subprocess.run([{cp!r}, sys.argv[1], source, place], stderr=subprocess.DEVNULL).returncode
 *sources, place = sys.argv[2:]
-if {copies_before!r} and "state" not in sources and not os.path.exists(os.path.join(place, "state")):
-    # What is copied before all else.
-    step = lambda name: None
+# What is copied before all else.
+before = "first " if {copies_before!r} and "state" not in sources and not os.path.exists(os.path.join(place, "state")) else ""
 status = 0
 for source in sources:
     called = source.replace("segments", "objects")
@@ -107,15 +107,16 @@ class Copying:
         self.listener = socket.socket(socket.AF_UNIX)
         self.listener.bind(os.path.join(busy.work, "steps"))
         self.listener.listen(1)
-        page = commands(block("docs/OPERATING.md", "Backup", "forkhost check"))
-        self.script = change(page)
-        self.is_changed = self.script != page
+        self.page = commands(block("docs/OPERATING.md", "Backup", "forkhost check"))
+        self.script = change(self.page)
         cp = CP.format(path=self.listener.getsockname(), cp="/bin/cp", copies_before=FIRST in self.script)
         for name, text in {"cp": cp, "sleep": "#!/bin/sh\n"}.items():
             with open(os.path.join(tools, name), "x", encoding="utf-8") as file:
                 file.write(text)
             os.chmod(os.path.join(tools, name), 0o700)
-        self.script = self.script.replace("/var/lib/forkhost/host", busy.folder.path).replace("/backup/new", self.place + ".new").replace("/backup/host", self.place)
+        self.script = self.script.replace("/var/lib/forkhost/host", busy.folder.path)
+        for called, place in {"new": self.place + ".new", "old": self.place + ".old", "host": self.place}.items():
+            self.script = self.script.replace("/backup/" + called, place)
         self.environment = {**os.environ, "PATH": os.pathsep.join([tools, os.environ["PATH"]])}
 
     def run(self, happens):
@@ -179,7 +180,7 @@ HAPPENINGS = {
     "objects go, and the state is saved": lambda busy: busy.ask(*GIVEN_UP),
     "objects go": lambda busy: busy.ask(*GIVEN_UP, held=True),
 }
-STEPS = ["state", "journal", "objects", "after objects"]
+STEPS = ["first after objects", "state", "journal", "objects", "after objects"]
 BEFORE, LOGS = "before=$(now)", "$(ls | grep uploads)"
 FIRST = "{ test -e segments || files; }"
 OBJECTS = "if test -e segments; then cp -a segments /backup/new; else files; fi"
@@ -223,6 +224,18 @@ def show_backups(checks, program, work):
         busy.end()
 
 
+def show_second_backup(checks, program, work):
+    """A copy takes the place of an older one, whatever an earlier try left beside that."""
+    busy = begun(program, work)
+    copying = Copying(busy)
+    for place in ("", ".new", ".old"):
+        os.makedirs(os.path.join(copying.place + place, "journal", "rubbish"))
+    checks.same("check", (0, b"sound\n"), copying.run(lambda step, tries: None)[:2])
+    checks.same("what is there", ["copy"], [it for it in sorted(os.listdir(work)) if it.startswith("copy")])
+    checks.same("the journals", [], [it for it in os.listdir(os.path.join(copying.place, "journal")) if it == "rubbish"])
+    busy.end()
+
+
 def show_wrong_backups(checks, program, work):
     """Wrong commands make a copy that is refused."""
     for number, (label, ((old, new), (happening, step, fault))) in enumerate(WRONG.items()):
@@ -232,7 +245,7 @@ def show_wrong_backups(checks, program, work):
             busy.end()
             continue
         copying = Copying(busy, lambda script: script.replace(FIRST, "true").replace(old, new))
-        checks.same(f"{label}: the commands are others", True, copying.is_changed)
+        checks.same(f"{label}: the commands are others", True, old in copying.page)
         status, output, said, _ = copying.run(once(busy, step, happening))
         last = said.splitlines()[-1:]
         checks.same(f"{label}: check, {last}", (1, b"", [True]), (status, output, [fault in row for row in last]))

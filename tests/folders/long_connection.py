@@ -90,5 +90,5 @@ def show_prunes_of_references(checks, program, work):
     begun = [(BOB, b"init r\n"), (BOB, b"push r\n\n" + record(b"blob", b"kept"))]
     begun += [(BOB, b"update-refs r\n" + it) for it in tags] + [(BOB, b"fork r f%d\n" % number) for number in range(FORKS)]
     enough = VISITED // (4096 * (FORKS + 1))
-    again = pruned(checks, program, work, begun, BOB, enough + 40)
+    again = pruned(checks, program, work, begun, BOB, enough + 120)
     checks.same(f"a start repeats {again}", True, again in range(1, 2 * enough))

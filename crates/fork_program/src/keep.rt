@@ -21,7 +21,7 @@ use std::time::Instant;
 // A journal may always grow by this many bytes.
 const SPARE: u64 = 1_048_576;
 
-// How many objects the requests of a journal may visit: some seconds of work, minutes over a folder.
+// How many objects and references the requests of a journal may visit: some seconds of work, minutes over a folder.
 const MOST_VISITED: u64 = 16_777_216;
 
 // Of so many frames it is copied what they have of uploads: less than half a second of work.
@@ -186,7 +186,7 @@ impl<'a, H: Files<File = File> + AllocGlobal> Keep<'a, H> {
         }
     }
 
-    // Whether a start would take long to repeat the journal: by its bytes, or by the objects that its requests
+    // Whether a start would take long to repeat the journal: by its bytes, or by what its requests
     // visit.
     fn is_long(&self) -> bool {
         let bytes = self.journal.bytes();

@@ -17,7 +17,7 @@ use std::net::Shutdown;
 use std::os::unix::net::{UnixListener, UnixStream};
 use std::time::Clock;
 
-// A connection to a host that a folder keeps pauses before a frame if more than this many bytes have come,
+// A connection to a host that a folder keeps pauses before a frame if more than this many bytes were taken,
 // so that the host's state can be saved.
 const PAUSE: u64 = 4096;
 

@@ -27,7 +27,7 @@ pub trait Journal {
     /// Whether keeping or syncing failed, so that the last frames may be incomplete.
     ghost is_cut: { Self → Bool };
 
-    /// Appends a frame, which visits so many objects when it is repeated. A journal that was cut keeps nothing more.
+    /// Appends a frame, which visits so many objects and references when it is repeated. A journal that was cut keeps nothing more.
     fn keep(&mut self, frame: &Frame, visited: u64) -> Result<(), NotKept>
         ensures ok { OnOk result (Appends (kept self.old) (kept self.new) (frame_bytes frame.now)) }
         ensures cause { IfErr result (λ _. can_fail) }
@@ -78,7 +78,7 @@ pub struct Written<W> {
     bytes: u64,
     // How many frames were kept.
     frames: u64,
-    // How many objects the frames visit when they are repeated.
+    // How many objects and references the frames visit when they are repeated.
     visits: u64,
     is_cut: bool,
     // Whether `sync` syncs the writer.
@@ -123,7 +123,7 @@ impl<W> Written<W> {
         self.frames
     }
 
-    /// How many objects the frames that were kept visit when they are repeated, up to 2^64 - 1. A short frame may
+    /// How many objects and references the frames that were kept visit when they are repeated, up to 2^64 - 1. A short frame may
     /// take long to repeat.
     pub fn visits(&self) -> u64
         ensures { result ≡ self.now.visits }

@@ -1,6 +1,5 @@
 use Rattle.std.proofs.Common.{IfOk, List, ℕ, ap, ◌∙◌, string_bytes, take, drop, subst, ◌≡◌}
 use Rattle.hex.specs.Hex.{encode_lower}
-use Rattle.folder_store.specs.Place.{rest_digits}
 use Rattle.folder_store.proofs.PlaceLemmas.{rest_of}
 use Rattle.folder_store.proofs.place.rest_of.Goals as goal
 

@@ -184,8 +184,8 @@ STEPS = ["first after objects", "state", "journal", "objects", "after objects"]
 BEFORE, LOGS = "before=$(now)", "$(ls | grep uploads)"
 FIRST = "{ test -e segments || files; }"
 OBJECTS = "if test -e segments; then cp -a segments /backup/new; else files; fi"
-COPIES = f"{BEFORE} &&\n  cp -a state journal {LOGS} /backup/new &&\n  {OBJECTS}"
-LOOK = ' && test "$before" = "$(now)"\n'
+COPIES = f"{BEFORE} && cp -a state journal {LOGS} /backup/new &&\n  {OBJECTS}"
+LOOK = ' && test "$before" = "$(now)"; do'
 LOOK_AT_LOGS = "stat -c %i:%w uploads.* 2> /dev/null; "
 # Wrong commands; what happens to show it, and before which step; and how the copy is refused.
 WRONG = {
@@ -201,7 +201,7 @@ WRONG = {
         (COPIES, f"{BEFORE} && cp -a state journal {LOGS} /backup/new && {{ test ! -e swept || cp -a swept /backup/new; }} && cp -a objects /backup/new"),
         ("objects go", "objects", b"lost "),
     ),
-    "without the look at the state": ((LOOK, "\n"), ("objects go, and the state is saved", "after journal", b"lost ")),
+    "without the look at the state": ((LOOK, "; do"), ("objects go, and the state is saved", "after journal", b"lost ")),
 }
 
 

@@ -17,8 +17,7 @@ use object_table::Holdings;
 use read_cache::CachedStore;
 use std::alloc::Global;
 
-// Learns the links and the time of an object from its bytes, unless they are known. A blob has no links, so nothing
-// is learned from it.
+// Learns the links and the time of an object from its bytes, unless they are known. A blob has no links.
 pub(crate) fn learn_links(
     alloc: Global,
     holdings: &mut Holdings,
@@ -30,7 +29,7 @@ pub(crate) fn learn_links(
     ensures catalogue { holdings.new.catalogue ≡ holdings.old.catalogue }
     ensures links { (q : List ℕ) (one : Learned (List ℕ)) → get holdings.new.links q ≡ Some one → (get holdings.old.links q ≡ Some one) ⊎ ((q ≡ name) × (one ≡ learned_of (record { kind = kind; bytes = bytes.now }))) }
 {
-    if matches!(kind, Kind::Blob) || holdings.knows(name) {
+    if holdings.knows(name) {
         return;
     }
     let Ok(names) = link_names(alloc, kind, bytes) else {

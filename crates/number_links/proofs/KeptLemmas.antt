@@ -99,11 +99,10 @@ all_without links n ks now is are =
 abbrev pub Learns : Known → Known → (ℕ → Bool) → (ℕ → Bool) → Type 0
 Learns links now allowed rests = (q : ℕ) (ms : List ℕ) → known now q ≡ Some ms → (known links q ≡ Some ms) ⊎ ((ms ≡ []) × (allowed q ≡ true) × (rests q ≡ true))
 
-pub learns_more : (links mid now : Known) (allowed rests : ℕ → Bool) (n : ℕ) → allowed n ≡ true → Learns links mid allowed rests
-    → ((q : ℕ) (ms : List ℕ) → known now q ≡ Some ms → (known mid q ≡ Some ms) ⊎ ((ms ≡ []) × (q ≡ n) × (rests q ≡ true))) → Learns links now allowed rests
-learns_more links mid now allowed rests n there before step q ms is = elim (step q ms is) [
+pub learns_more : (links mid now : Known) (allowed rests : ℕ → Bool) → Learns links mid allowed rests → Learns mid now allowed rests → Learns links now allowed rests
+learns_more links mid now allowed rests before step q ms is = elim (step q ms is) [
   | inl long ↦ before q ms long
-  | inr learned ↦ inr (learned.0, subst (λ m. allowed m ≡ true) (sym learned.1) there, learned.2)
+  | inr learned ↦ inr learned
 ]
 
 pub learns_nowhere : (links now : Known) (allowed rests : ℕ → Bool) → Learns links now allowed rests → (q : ℕ) (ms : List ℕ) → known now q ≡ Some ms → (known links q ≡ Some ms) ⊎ (ms ≡ [])

@@ -2,6 +2,7 @@ pub mod BestLemmas
 pub mod BitLemmas
 pub mod CountLemmas
 pub mod DescentLemmas
+pub mod EnterLemmas
 pub mod FactLemmas
 pub mod GenerationLemmas
 pub mod GenerationPageLemmas
@@ -10,6 +11,7 @@ pub mod KeptLemmas
 pub mod KeyLemmas
 pub mod LearnLemmas
 pub mod NextLemmas
+pub mod NowhereLemmas
 pub mod OptionLemmas
 pub mod PackLemmas
 pub mod PageLemmas

@@ -100,7 +100,7 @@ pub or_true : (a b : Bool) → b ≡ true → a || b ≡ true
 or_true true b is = refl
 or_true false b is = is
 
-same_or : (n : ℕ) (b : Bool) → nat_eq n n || b ≡ true
+pub same_or : (n : ℕ) (b : Bool) → nat_eq n n || b ≡ true
 same_or n b = (let same : nat_eq n n ≡ true = search arith in ap (λ a. a || b) same)
 
 both_true : (a b : Bool) → a ≡ true → b ≡ false → a && not b ≡ true

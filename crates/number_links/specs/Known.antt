@@ -1,5 +1,5 @@
 -- The known links of numbers (own).
-use Rattle.std.specs.Prelude.{◌≡◌, ◌⊎◌, ℕ, Bool, true, List, [], Option, None, get_or, is_some, unwrap_or}
+use Rattle.std.specs.Prelude.{◌≡◌, ◌⊎◌, ℕ, Bool, true, List, [], Option, None, Some, get_or, is_some, unwrap_or}
 
 -- for each number its links, if they are known
 abbrev pub Known : Type 0
@@ -16,3 +16,7 @@ linked links n = unwrap_or (known links n) []
 -- a number rests, or its links are known
 abbrev pub RestsOrIsKnown : Known → (ℕ → Bool) → ℕ → Type 0
 RestsOrIsKnown links rests n = (rests n ≡ true) ⊎ (is_some (known links n) ≡ true)
+
+-- these numbers are known to link to nothing
+abbrev pub LeadNowhere : Known → (ℕ → Bool) → Type 0
+LeadNowhere links among = (n : ℕ) → among n ≡ true → known links n ≡ Some []

@@ -4,7 +4,7 @@ ghost use Rattle.number_links.specs.Numbers.{has};
 ghost use Rattle.number_links.specs.Bases.{IsBest};
 ghost use Rattle.number_links.specs.Facts.{Learned, goes_on, learned, nothing, told};
 ghost use Rattle.number_links.specs.Kept.{IsKept};
-ghost use Rattle.number_links.specs.Known.{RestsOrIsKnown, known};
+ghost use Rattle.number_links.specs.Known.{LeadNowhere, RestsOrIsKnown, known};
 ghost use Rattle.number_links.specs.Reach.{IsReached, ReachesUnknown};
 ghost use Rattle.number_links.specs.declared.along.Along.TheVariants.{Links as along_links, Parents as along_parents};
 
@@ -31,6 +31,8 @@ use std::marker::Model;
 #[derive(Drop)]
 pub struct Graph {
     links: Links,
+    // Numbers that are known to have no links.
+    ends: NumberSet,
     times: Times,
     kept: Vec<Kept>,
     generations: Generations,
@@ -41,12 +43,14 @@ impl Model for Graph {
     ghost use Rattle.number_links.specs.Facts.{Facts};
     ghost use Rattle.number_links.specs.Generations.{AreGenerations};
     ghost use Rattle.number_links.specs.Kept.{IsKept};
+    ghost use Rattle.number_links.specs.Known.{LeadNowhere};
+    ghost use Rattle.number_links.specs.Numbers.{has};
 
     ghost Value = { Facts };
 
     ghost view = { λ a. record { links = a.links; times = a.times } };
 
-    ghost invariant = { λ a. All (IsKept a.links) a.kept.items × AreGenerations (record { links = a.links; times = a.times }) a.generations };
+    ghost invariant = { λ a. All (IsKept a.links) a.kept.items × AreGenerations (record { links = a.links; times = a.times }) a.generations × LeadNowhere a.links (has a.ends) };
 }
 
 impl Graph {
@@ -56,6 +60,7 @@ impl Graph {
     {
         Graph {
             links: Links::new(alloc),
+            ends: NumberSet::new(alloc),
             times: Times::new(alloc),
             kept: Vec::new(alloc),
             generations: Generations::new(alloc),
@@ -82,6 +87,9 @@ impl Graph {
         if self.links.of(n).is_some() {
             return Ok(());
         }
+        if to.is_empty() {
+            return note_end(&mut self.links, &mut self.ends, n);
+        }
         note(&mut self.links, &mut self.times, n, to, time)
     }
 
@@ -93,8 +101,10 @@ impl Graph {
     {
         let_go(&mut self.kept, n);
         self.generations.let_go(n);
+        self.ends.remove(n);
         if !self.links.renew(n) {
             self.kept.clear();
+            self.ends.clear();
             self.generations.clear();
             return false;
         }
@@ -116,6 +126,7 @@ impl Graph {
         keep_all(
             alloc,
             &mut self.links,
+            &self.ends,
             &mut self.kept,
             allowed,
             resting,
@@ -231,6 +242,22 @@ fn note(
     times.reserve(n)?;
     links.learn(n, to)?;
     times.put(n, time);
+    Ok(())
+}
+
+// Learns that a number has no links. It is an end then, unless memory runs out.
+fn note_end(links: &mut Links, ends: &mut NumberSet, n: u32) -> Result<(), AllocError>
+    requires { known links.old n ≡ None }
+    ensures only { (q : ℕ) (ms : List ℕ) → known links.new q ≡ Some ms → (known links.old q ≡ Some ms) ⊎ ((q ≡ n) × (ms ≡ [])) }
+    ensures ok { OnOk result (known links.new n ≡ Some []) }
+    ensures stays { (q : ℕ) → is_some (known links.old q) ≡ true → known links.new q ≡ known links.old q }
+    ensures ends { LeadNowhere links.old (has ends.old) → LeadNowhere links.new (has ends.new) }
+{
+    links.learn(n, &[])?;
+    let Ok(()) = ends.reserve(n) else {
+        return Ok(());
+    };
+    ends.insert(n);
     Ok(())
 }
 

@@ -2,7 +2,7 @@
 ghost use Rattle.std.specs.Prelude.{◌≡◌, ◌⊎◌, ℕ, List, [], Some, All, true, is_some};
 ghost use Rattle.number_links.specs.Numbers.{has};
 ghost use Rattle.number_links.specs.Kept.{IsKept};
-ghost use Rattle.number_links.specs.Known.{known};
+ghost use Rattle.number_links.specs.Known.{LeadNowhere, known};
 
 use crate::gathering::gather;
 use crate::kept::{Kept, put};
@@ -17,16 +17,18 @@ const FEW: usize = 4096;
 // Sets are kept for at most this many numbers of a list.
 const MOST_ROOTS: usize = 8;
 
-// Keeps the set of all numbers reachable from one.
+// Keeps the set of all numbers reachable from one. `ends` are numbers that are known to have no links.
 fn keep_one<R: Resting>(
     alloc: Global,
     links: &mut Links,
+    ends: &NumberSet,
     kept: &mut Vec<Kept>,
     allowed: &NumberSet,
     resting: &R,
     root: u32,
 )
-    requires { All (IsKept links.old) kept.old.items }
+    requires kept { All (IsKept links.old) kept.old.items }
+    requires ends { LeadNowhere links.old (has ends.now) }
     ensures kept { All (IsKept links.new) kept.new.items }
     ensures stays { (q : ℕ) → is_some (known links.old q) ≡ true → known links.new q ≡ known links.old q }
     ensures only { (q : ℕ) (ms : List ℕ) → known links.new q ≡ Some ms → (known links.old q ≡ Some ms) ⊎ ((ms ≡ []) × (has allowed.now q ≡ true) × (R.rests resting.now q ≡ true)) }
@@ -35,6 +37,7 @@ fn keep_one<R: Resting>(
     let Ok(Some(reached)) = gather(
         alloc,
         links,
+        ends,
         kept.as_slice(),
         allowed,
         resting,
@@ -53,17 +56,19 @@ fn keep_one<R: Resting>(
 pub(crate) fn keep_all<R: Resting>(
     alloc: Global,
     links: &mut Links,
+    ends: &NumberSet,
     kept: &mut Vec<Kept>,
     allowed: &NumberSet,
     resting: &R,
     roots: &[u32],
 )
-    requires { All (IsKept links.old) kept.old.items }
+    requires kept { All (IsKept links.old) kept.old.items }
+    requires ends { LeadNowhere links.old (has ends.now) }
     ensures kept { All (IsKept links.new) kept.new.items }
     ensures stays { (q : ℕ) → is_some (known links.old q) ≡ true → known links.new q ≡ known links.old q }
     ensures only { (q : ℕ) (ms : List ℕ) → known links.new q ≡ Some ms → (known links.old q ≡ Some ms) ⊎ ((ms ≡ []) × (has allowed.now q ≡ true) × (R.rests resting.now q ≡ true)) }
 {
     for at in 0..roots.len().min(MOST_ROOTS) {
-        keep_one(alloc, links, kept, allowed, resting, roots[at]);
+        keep_one(alloc, links, ends, kept, allowed, resting, roots[at]);
     }
 }

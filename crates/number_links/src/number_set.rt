@@ -1,4 +1,4 @@
-ghost use Rattle.std.specs.Prelude.{◌≡◌, ◌<◌, ◌≤◌, ℕ, ◌||◌, ◌&&◌, not, nat_eq, false, true, IfSome, IfNone, OnOk, None, get_or, is_some, length};
+ghost use Rattle.std.specs.Prelude.{◌≡◌, ◌<◌, ◌≤◌, ℕ, ◌||◌, ◌&&◌, not, nat_eq, false, true, IfSome, IfNone, OnOk, OnErr, None, get_or, is_some, length};
 ghost use Rattle.number_links.specs.Numbers.{HasRoomOf, Pages, has, has_room, is_there};
 
 use crate::page::Page;
@@ -81,6 +81,20 @@ impl NumberSet {
             return;
         }
         slot::insert(&mut self.pages[n as usize / 4096], n % 4096);
+    }
+
+    /// Adds a number, whether it has room or not.
+    pub fn add(&mut self, n: u32) -> Result<(), AllocError>
+        ensures ok { OnOk result ((q : ℕ) → has self.new q ≡ (nat_eq q n || has self.old q)) }
+        ensures err { OnErr result ((q : ℕ) → has self.new q ≡ has self.old q) }
+    {
+        if self.has_page(n as usize / 4096) {
+            self.insert(n);
+            return Ok(());
+        }
+        self.reserve(n)?;
+        self.insert(n);
+        Ok(())
     }
 
     /// Removes a number.

@@ -3,24 +3,25 @@ use Rattle.std.proofs.Common.{◌≡◌, ◌≢◌, ℕ, ◌+◌, ◌≤◌, ◌
 use Rattle.std.specs.Io.KnownBytes.{Consumes, IsAtEnd}
 use Rattle.chained_log.specs.declared.next.Found.{Found}
 use Rattle.chained_log.specs.declared.next.Found.TheVariants.{Piece, Cut, Altered}
-use Rattle.chained_log.specs.Log.{Fits, piece_bytes}
+use Rattle.chained_log.specs.Log.{SumKind, Fits, piece_bytes}
 use Rattle.chained_log.specs.Next.{IsNextOf, IsCut}
 
 -- the whole length of the piece that begins so
 abbrev pub IsWholeLength : List ℕ → ℕ → Type 0
-IsWholeLength front whole = (before piece lost : List ℕ) → Fits piece → 4 ≤ length front → front ++ lost ≡ piece_bytes before piece → whole ≡ length (piece_bytes before piece)
+IsWholeLength front whole = (kind : SumKind) (before piece lost : List ℕ) → Fits piece → 4 ≤ length front → front ++ lost ≡ piece_bytes kind before piece → whole ≡ length (piece_bytes kind before piece)
 
 -- what was found stays, whatever follows, unless it is `Cut`
 pub stays : (before came rest : List ℕ) (found : Found) → found ≢ Cut → IsNextOf before came found → IsNextOf before (came ++ rest) found
 stays before came rest (Piece len) right is = record {
+  kind = is.kind;
   piece = is.piece;
   rest = is.rest ++ rest;
   fits = is.fits;
   long = is.long;
-  parts = ap (λ l. l ++ rest) is.parts ∙ append_assoc (piece_bytes before is.piece) is.rest rest;
+  parts = ap (λ l. l ++ rest) is.parts ∙ append_assoc (piece_bytes is.kind before is.piece) is.rest rest;
 }
 stays before came rest Cut right is = absurd (right refl)
-stays before came rest Altered right is = λ piece more after fits same. is piece (rest ++ more) after fits (sym (append_assoc came rest more) ∙ same)
+stays before came rest Altered right is = λ kind piece more after fits same. is kind piece (rest ++ more) after fits (sym (append_assoc came rest more) ∙ same)
 
 -- all that is left, as it was before a read
 pub before_read : (old came more left rest : List ℕ) → came ≡ old ++ more → left ≡ more ++ rest → came ++ rest ≡ old ++ left
@@ -35,9 +36,9 @@ found_early before old came more (Some left) (Some rest) found right is taken ne
 -- no cut is as long as the piece
 not_cut : (before first more came : List ℕ) (whole : ℕ) → 36 ≤ length first → came ≡ first ++ more → IsWholeLength first whole → whole ≤ length came → IsCut before came → ⊥
 not_cut before first more came whole enough is size long cut =
-    let all : first ++ (more ++ cut.lost) ≡ piece_bytes before cut.piece = sym (append_assoc first more cut.lost) ∙ (ap (λ l. l ++ cut.lost) (sym is) ∙ cut.parts) in
-    let same : whole ≡ length (piece_bytes before cut.piece) = size before cut.piece (more ++ cut.lost) cut.fits (omega (arith, enough)) all in
-    let parts : length (piece_bytes before cut.piece) ≡ length came + length cut.lost = ap (λ (l : List ℕ). length l) (sym cut.parts) ∙ length-append came cut.lost in
+    let all : first ++ (more ++ cut.lost) ≡ piece_bytes cut.kind before cut.piece = sym (append_assoc first more cut.lost) ∙ (ap (λ l. l ++ cut.lost) (sym is) ∙ cut.parts) in
+    let same : whole ≡ length (piece_bytes cut.kind before cut.piece) = size cut.kind before cut.piece (more ++ cut.lost) cut.fits (omega (arith, enough)) all in
+    let parts : length (piece_bytes cut.kind before cut.piece) ≡ length came + length cut.lost = ap (λ (l : List ℕ). length l) (sym cut.parts) ∙ length-append came cut.lost in
     let some = cut.some in
     omega (arith, same, parts, some, long)
 

@@ -1,7 +1,7 @@
 -- What is left, taken apart as it is looked at.
 use Rattle.std.proofs.Common.{◌≡◌, ℕ, ◌+◌, ◌<◌, ◌≤◌, ◌^◌, List, [], ◌++◌, length, take, drop, refl, sym, ap, ap₂, ◌∙◌, arith, append_assoc, append-nil}
 use Rattle.std.proofs.lemmas.List.{take-append-drop, take_all}
-use Rattle.chained_log.specs.Log.{Fits, head_sum, length_bytes, piece_bytes, sum_after}
+use Rattle.chained_log.specs.Log.{SumKind, Fits, head_sum, length_bytes, piece_bytes, sum_after}
 use Rattle.chained_log.proofs.SumLemmas.{length-length_bytes, length-head_sum}
 use Rattle.chained_log.proofs.NextLemmas.{length-piece_bytes, meets}
 
@@ -25,19 +25,19 @@ after_piece before left behind piece rest n parts one two =
     parts ∙ ap (λ l. length_bytes n ++ (head_sum before n ++ l)) (sym (take-append-drop n behind) ∙ ap₂ (λ (a b : List ℕ). a ++ b) (sym one) (sym two))
 
 -- a piece that was put together
-pub put_together : (before piece none one two three all len head sum : List ℕ) → none ≡ [] → one ≡ none ++ len → two ≡ one ++ head → three ≡ two ++ piece → all ≡ three ++ sum
-    → len ≡ length_bytes (length piece) → head ≡ head_sum before (length piece) → sum ≡ sum_after before piece → all ≡ piece_bytes before piece
-put_together before piece none one two three all len head sum empty a b c d is_len is_head is_sum =
-    let whole : all ≡ (((([] ++ length_bytes (length piece)) ++ head_sum before (length piece)) ++ piece) ++ sum_after before piece) = cc in
-    whole ∙ regroup (length_bytes (length piece)) (head_sum before (length piece)) (sum_after before piece)
+pub put_together : (kind : SumKind) (before piece none one two three all len head sum : List ℕ) → none ≡ [] → one ≡ none ++ len → two ≡ one ++ head → three ≡ two ++ piece → all ≡ three ++ sum
+    → len ≡ length_bytes (length piece) → head ≡ head_sum before (length piece) → sum ≡ sum_after kind before piece → all ≡ piece_bytes kind before piece
+put_together kind before piece none one two three all len head sum empty a b c d is_len is_head is_sum =
+    let whole : all ≡ (((([] ++ length_bytes (length piece)) ++ head_sum before (length piece)) ++ piece) ++ sum_after kind before piece) = cc in
+    whole ∙ regroup (length_bytes (length piece)) (head_sum before (length piece)) (sum_after kind before piece)
   where
     regroup : (l h s : List ℕ) → ((l ++ h) ++ piece) ++ s ≡ l ++ (h ++ (piece ++ s))
     regroup l h s = simp append_assoc
 
 -- the length of the piece that begins so
-pub length_of_front : (before front piece lost : List ℕ) (n : ℕ) → n < 2 ^ 32 → Fits piece → 4 ≤ length front → take 4 front ≡ take (length front) (length_bytes n) → front ++ lost ≡ piece_bytes before piece
-    → length (piece_bytes before piece) ≡ 68 + n
-length_of_front before front piece lost n small fits enough agrees is =
+pub length_of_front : (kind : SumKind) (before front piece lost : List ℕ) (n : ℕ) → n < 2 ^ 32 → Fits piece → 4 ≤ length front → take 4 front ≡ take (length front) (length_bytes n) → front ++ lost ≡ piece_bytes kind before piece
+    → length (piece_bytes kind before piece) ≡ 68 + n
+length_of_front kind before front piece lost n small fits enough agrees is =
     let parts = after_length front (drop 4 front) n enough agrees refl in
-    let both = meets before front lost [] (drop 4 front) piece n parts small fits (is ∙ sym (append-nil _)) in
-    length-piece_bytes before piece ∙ ap (λ k. 68 + k) (sym both.0)
+    let both = meets kind before front lost [] (drop 4 front) piece n parts small fits (is ∙ sym (append-nil _)) in
+    length-piece_bytes kind before piece ∙ ap (λ k. 68 + k) (sym both.0)

@@ -3,10 +3,12 @@ use Rattle.std.proofs.Common.{◌≡◌, ℕ, min, ◌<◌, ◌≤◌, ◌^◌, 
 use Rattle.std.proofs.lemmas.List.{take-append-drop, take_all, take_min, drop_min}
 use Rattle.std.proofs.Math.Nat.{min_comm}
 use Rattle.std.proofs.lemmas.Nat.{from_be_bytes-to_be_bytes_4}
-use Rattle.std.specs.Int.{from_be_bytes, w32}
-use Rattle.sha2.specs.Sha256.{sha256}
+use Rattle.std.specs.Int.{from_be_bytes, to_be_bytes, w32, w64}
+use Rattle.std.specs.Hash.DefaultHasher as sip
+use Rattle.std.specs.declared.hash.DefaultHasher.{DefaultHasher}
+use Rattle.std.proofs.lemmas.List.Sums.{fold-append}
 use Rattle.sha2.proofs.Facts256.{length-sha256}
-use Rattle.chained_log.specs.Log.{head_sum, length_bytes, sum_after}
+use Rattle.chained_log.specs.Log.{SumKind, OfDigest, OfContents, digest, head_sum, length_bytes, piece_sum, sum_after}
 
 pub length-length_bytes : (n : ℕ) → length (length_bytes n) ≡ 4
 unfolding length_bytes
@@ -16,9 +18,10 @@ pub length-head_sum : (before : List ℕ) (n : ℕ) → length (head_sum before 
 unfolding head_sum
 length-head_sum before n = length-sha256 _
 
-pub length-sum_after : (before piece : List ℕ) → length (sum_after before piece) ≡ 32
+pub length-sum_after : (kind : SumKind) (before piece : List ℕ) → length (sum_after kind before piece) ≡ 32
 unfolding sum_after
-length-sum_after before piece = length-sha256 _
+length-sum_after OfDigest before piece = length-sha256 _
+length-sum_after OfContents before piece = length-sha256 _
 
 -- four bytes write one length
 pub one_length : (n m : ℕ) → n < 2 ^ 32 → m < 2 ^ 32 → length_bytes n ≡ length_bytes m → n ≡ m
@@ -70,6 +73,19 @@ padded bytes zeros n most size is =
     ap (λ k. take k bytes) (sym size) ∙ padded_all bytes zeros ∙ ap (take (length bytes)) (ap₂ (λ (a b : List ℕ). a ++ b) (sym front) (sym rest))
 
 -- the sum after a piece, by that of its head
-pub sum_is : (before piece head sum : List ℕ) (n : ℕ) → length piece ≡ n → head ≡ head_sum before n → sum ≡ sha256 (head ++ piece) → sum ≡ sum_after before piece
+pub sum_is : (kind : SumKind) (before piece head : List ℕ) (n : ℕ) → length piece ≡ n → head ≡ head_sum before n → piece_sum kind head piece ≡ sum_after kind before piece
 unfolding sum_after
-sum_is before piece head sum n long is_head is = is ∙ ap (λ h. sha256 (h ++ piece)) (is_head ∙ ap (head_sum before) (sym long))
+sum_is kind before piece head n long is_head = ap (λ h. piece_sum kind h piece) (is_head ∙ ap (head_sum before) (sym long))
+
+-- bytes that are written one after another are written at once
+pub write_both : (s : DefaultHasher) (a b : List ℕ) → sip.write (sip.write s a) b ≡ sip.write s (a ++ b)
+unfolding sip.write
+write_both s a b = sym (fold-append sip.write_byte s a b)
+
+-- the digest, by the bytes that were written
+pub digest_is : (head piece front bytes : List ℕ) (start mid end : DefaultHasher) → front ≡ head → start ≡ sip.initial → mid ≡ sip.write start front → end ≡ sip.write mid piece
+    → bytes ≡ to_be_bytes w64 (sip.finish end) → bytes ≡ digest head piece
+unfolding digest
+digest_is head piece front bytes start mid end is_head is_start is_mid is_end is =
+    let both : end ≡ sip.write (sip.write sip.initial head) piece = cc in
+    is ∙ ap (λ s. to_be_bytes w64 (sip.finish s)) (both ∙ write_both sip.initial head piece)

@@ -4,27 +4,29 @@ use Rattle.chained_log.specs.declared.fault.Ended.{Ended}
 use Rattle.chained_log.specs.declared.fault.Ended.TheVariants.{Whole, Cut as EndsCut, Altered as EndsAltered}
 use Rattle.chained_log.specs.declared.next.Found.{Found}
 use Rattle.chained_log.specs.declared.next.Found.TheVariants.{Piece, Cut, Altered}
-use Rattle.chained_log.specs.Log.{Fits, piece_bytes, sum_after}
+use Rattle.chained_log.specs.Log.{SumKind, Fits, piece_bytes, sum_after}
 
--- what is left begins with a whole piece of this length
+-- what is left begins with a whole piece of this length, with a sum of either kind
 pub record BeginsPiece (before left : List ℕ) (len : ℕ) : Type 0 where
+  pub kind : SumKind
   pub piece : List ℕ
   pub rest : List ℕ
   pub fits : Fits piece
   pub long : length piece ≡ len
-  pub parts : left ≡ piece_bytes before piece ++ rest
+  pub parts : left ≡ piece_bytes kind before piece ++ rest
 
 -- what is left lacks at least one byte of a whole piece
 pub record IsCut (before left : List ℕ) : Type 0 where
+  pub kind : SumKind
   pub piece : List ℕ
   pub lost : List ℕ
   pub fits : Fits piece
   pub some : 1 ≤ length lost
-  pub parts : left ++ lost ≡ piece_bytes before piece
+  pub parts : left ++ lost ≡ piece_bytes kind before piece
 
--- no whole piece agrees with what is left, as far as both go
+-- no whole piece, with a sum of either kind, agrees with what is left, as far as both go
 abbrev pub IsAltered : List ℕ → List ℕ → Type 0
-IsAltered before left = (piece more rest : List ℕ) → Fits piece → left ++ more ≢ piece_bytes before piece ++ rest
+IsAltered before left = (kind : SumKind) (piece more rest : List ℕ) → Fits piece → left ++ more ≢ piece_bytes kind before piece ++ rest
 
 -- what was found is what is there
 abbrev pub IsNextOf : List ℕ → List ℕ → Found → Type 0
@@ -38,7 +40,7 @@ EndsAs before left Whole = left ≡ []
 EndsAs before left EndsCut = (1 ≤ length left) × IsCut before left
 EndsAs before left EndsAltered = IsAltered before left
 
--- what is left is read as these pieces, and ends this way
+-- what is left is read as these pieces, whichever sums they have, and ends this way
 abbrev pub IsReadAs : List ℕ → List ℕ → List (List ℕ) → Ended → Type 0
 IsReadAs before left [] ended = EndsAs before left ended
-IsReadAs before left (piece ∷ pieces) ended = (rest : List ℕ) × Fits piece × (left ≡ piece_bytes before piece ++ rest) × IsReadAs (sum_after before piece) rest pieces ended
+IsReadAs before left (piece ∷ pieces) ended = (kind : SumKind) × (rest : List ℕ) × Fits piece × (left ≡ piece_bytes kind before piece ++ rest) × IsReadAs (sum_after kind before piece) rest pieces ended

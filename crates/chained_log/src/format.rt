@@ -1,8 +1,8 @@
 ghost use Rattle.std.specs.Prelude.{◌≡◌, ◌<◌, ◌^◌, ◌++◌, IfOk, OnOk, length};
 ghost use Rattle.std.specs.Io.KnownBytes.{Appends};
-ghost use Rattle.chained_log.specs.Log.{Fits, piece_bytes, sum_after};
+ghost use Rattle.chained_log.specs.Log.{Fits, OfDigest, piece_bytes, sum_after};
 
-use crate::sums::{head_of, sum_of};
+use crate::sums::{head_of, sum_of_piece};
 use std::io;
 use std::io::Write;
 
@@ -14,12 +14,12 @@ pub(crate) fn put_piece<W: Write>(
     piece: &[u8],
 ) -> io::Result<[u8; 32]>
     requires { Fits piece.now }
-    ensures bytes { OnOk result (Appends (W.contents writer.old) (W.contents writer.new) (piece_bytes before.now piece.now)) }
-    ensures sum { IfOk result (λ sum. sum ≡ sum_after before.now piece.now) }
+    ensures bytes { OnOk result (Appends (W.contents writer.old) (W.contents writer.new) (piece_bytes OfDigest before.now piece.now)) }
+    ensures sum { IfOk result (λ sum. sum ≡ sum_after OfDigest before.now piece.now) }
 {
     let len = piece.len() as u32;
     let head = head_of(before, len);
-    let sum = sum_of(&head, piece);
+    let sum = sum_of_piece(&head, piece);
     room.clear();
     room.extend_from_slice(len.to_be_bytes().as_slice())?;
     room.extend_from_slice(head.as_slice())?;

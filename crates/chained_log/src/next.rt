@@ -1,7 +1,7 @@
 ghost use Rattle.std.specs.Prelude.{◌≡◌};
 ghost use Rattle.chained_log.specs.Next.{IsNextOf};
 
-use crate::sums::{LENGTH, SUM, agrees, head_of, length_at, sum_of};
+use crate::sums::{LENGTH, SUM, agrees, follows, head_of, length_at};
 
 /// What comes next in a log.
 #[derive(Clone, Copy, Debug, PartialEq, Eq)]
@@ -36,8 +36,7 @@ pub fn next_piece(before: &[u8; 32], left: &[u8]) -> Found
         return Found::Cut;
     }
     let (piece, rest) = rest.split_at(len);
-    let sum = sum_of(&head, piece);
-    if !agrees(rest, &sum) {
+    if !follows(rest, &head, piece) {
         return Found::Altered;
     }
     if rest.len() < SUM {

@@ -1,7 +1,7 @@
 ghost use Rattle.std.specs.Prelude.{◌≡◌, ◌≤◌, ◌<◌, ◌⊎◌, ◌++◌, ℕ, List, IfOk, IfErr, IfSome, OnOk, length, vec_len};
 ghost use Rattle.std.specs.Io.KnownBytes.{Consumes, IsAtEnd};
 ghost use Rattle.std.specs.Io.{ReadsAtMost};
-ghost use Rattle.chained_log.specs.Log.{Fits, piece_bytes, sum_after};
+ghost use Rattle.chained_log.specs.Log.{SumKind, Fits, piece_bytes};
 ghost use Rattle.chained_log.specs.Next.{IsNextOf};
 
 use crate::fault::Ended;
@@ -79,7 +79,7 @@ fn ends_in_zeros<R: Read>(reader: &mut R, came: &mut Vec<u8>) -> io::Result<bool
 
 // The length in bytes of the piece that begins so, with its head and its last sum.
 fn whole_length(front: &[u8]) -> usize
-    ensures { (before piece lost : List ℕ) → Fits piece → LENGTH ≤ length front.now → front.now ++ lost ≡ piece_bytes before piece → result ≡ length (piece_bytes before piece) }
+    ensures { (kind : SumKind) (before piece lost : List ℕ) → Fits piece → LENGTH ≤ length front.now → front.now ++ lost ≡ piece_bytes kind before piece → result ≡ length (piece_bytes kind before piece) }
 {
     HEAD + length_at(front) as usize + SUM
 }

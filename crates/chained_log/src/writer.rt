@@ -1,7 +1,7 @@
 ghost use Rattle.std.specs.Prelude.{◌≡◌, ◌≤◌, ℕ, List, IfOk, OnOk, take, length};
 ghost use Rattle.std.specs.Io.{WritesAtMost};
 ghost use Rattle.std.specs.Io.KnownBytes.{Appends, Keeps, WriteAppends};
-ghost use Rattle.chained_log.specs.Log.{piece_bytes, sum_after};
+ghost use Rattle.chained_log.specs.Log.{OfDigest, piece_bytes, sum_after};
 
 use crate::format::put_piece;
 use crate::sums::{LONGEST, ROOM};
@@ -53,8 +53,8 @@ impl<W: Write> Write for LogWriter<W> {
     fn write(&mut self, buf: &[u8]) -> io::Result<usize>
         ensures bound { WritesAtMost result buf.now }
         ensures bytes { WriteAppends None None result buf.now }
-        ensures log { IfOk result (λ n. 1 ≤ n → Appends (W.contents self.old.writer) (W.contents self.new.writer) (piece_bytes self.old.sum (take n buf.now))) }
-        ensures sum { IfOk result (λ n. 1 ≤ n → self.new.sum ≡ sum_after self.old.sum (take n buf.now)) }
+        ensures log { IfOk result (λ n. 1 ≤ n → Appends (W.contents self.old.writer) (W.contents self.new.writer) (piece_bytes OfDigest self.old.sum (take n buf.now))) }
+        ensures sum { IfOk result (λ n. 1 ≤ n → self.new.sum ≡ sum_after OfDigest self.old.sum (take n buf.now)) }
     {
         let n = buf.len().min(LONGEST);
         if n == 0 {

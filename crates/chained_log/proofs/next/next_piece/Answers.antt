@@ -30,8 +30,8 @@ returns-then-rest-len c =
     c.split_at-2.ensures.back)
     c.if-rest-len.true
 
-pub returns-then-not-agrees-2 : goal.returns-then-not-agrees-2
-returns-then-not-agrees-2 c =
+pub returns-then-not-follows : goal.returns-then-not-follows
+returns-then-not-follows c =
     altered_sum c.args.before.now c.args.left.now c.split_at-3.result.0.now c.split_at-3.result.1.now c.length_at-len.result c.length_at-len.type_inv c.split_at-3.ensures.front_len
     (after_piece c.args.before.now c.args.left.now c.split_at-2.result.1.now c.split_at-3.result.0.now c.split_at-3.result.1.now c.length_at-len.result
     (after_head c.args.before.now c.args.left.now c.split_at.result.1.now c.split_at-2.result.1.now c.length_at-len.result
@@ -40,11 +40,12 @@ returns-then-not-agrees-2 c =
     (c.agrees.ensures.0 c.if-not-agrees.false ∙ ap (take (length c.split_at.result.1.now)) c.head_of-head.ensures)
     c.split_at-2.ensures.back)
     c.split_at-3.ensures.front c.split_at-3.ensures.back)
-    (λ same. let yes = c.agrees-2.ensures.1 (same ∙ ap (take (length c.split_at-3.result.1.now)) (sym (sum_is c.args.before.now c.split_at-3.result.0.now c.head_of-head.result c.sum_of-sum.result c.length_at-len.result c.split_at-3.ensures.front_len c.head_of-head.ensures c.sum_of-sum.ensures))) in let no : ⊥ = (let bad = sym yes ∙ c.if-not-agrees-2.true in cc) in no)
+    (λ kind same. let yes = c.follows.ensures.1 (kind, same ∙ ap (take (length c.split_at-3.result.1.now)) (sym (sum_is kind c.args.before.now c.split_at-3.result.0.now c.head_of-head.result c.length_at-len.result c.split_at-3.ensures.front_len c.head_of-head.ensures))) in let no : ⊥ = (let bad = sym yes ∙ c.if-not-follows.true in cc) in no)
 
 pub returns-then-rest-lt-SUM-2 : goal.returns-then-rest-lt-SUM-2
 returns-then-rest-lt-SUM-2 c =
-    cut_in_sum c.args.before.now c.args.left.now c.split_at-3.result.0.now c.split_at-3.result.1.now c.length_at-len.result c.length_at-len.type_inv c.split_at-3.ensures.front_len
+    let agreed = c.follows.ensures.0 c.if-not-follows.false in
+    cut_in_sum agreed.0 c.args.before.now c.args.left.now c.split_at-3.result.0.now c.split_at-3.result.1.now c.length_at-len.result c.length_at-len.type_inv c.split_at-3.ensures.front_len
     (after_piece c.args.before.now c.args.left.now c.split_at-2.result.1.now c.split_at-3.result.0.now c.split_at-3.result.1.now c.length_at-len.result
     (after_head c.args.before.now c.args.left.now c.split_at.result.1.now c.split_at-2.result.1.now c.length_at-len.result
     (after_length c.args.left.now c.split_at.result.1.now c.length_at-len.result c.if-left-lt-LENGTH.false c.length_at-len.ensures c.split_at.ensures.back)
@@ -53,11 +54,12 @@ returns-then-rest-lt-SUM-2 c =
     c.split_at-2.ensures.back)
     c.split_at-3.ensures.front c.split_at-3.ensures.back)
     c.if-rest-lt-SUM-2.true
-    (c.agrees-2.ensures.0 c.if-not-agrees-2.false ∙ ap (take (length c.split_at-3.result.1.now)) (sum_is c.args.before.now c.split_at-3.result.0.now c.head_of-head.result c.sum_of-sum.result c.length_at-len.result c.split_at-3.ensures.front_len c.head_of-head.ensures c.sum_of-sum.ensures))
+    (agreed.1 ∙ ap (take (length c.split_at-3.result.1.now)) (sum_is agreed.0 c.args.before.now c.split_at-3.result.0.now c.head_of-head.result c.length_at-len.result c.split_at-3.ensures.front_len c.head_of-head.ensures))
 
 pub returns : goal.returns
 returns c =
-    begins_piece c.args.before.now c.args.left.now c.split_at-3.result.0.now c.split_at-3.result.1.now c.length_at-len.result c.length_at-len.type_inv c.split_at-3.ensures.front_len
+    let agreed = c.follows.ensures.0 c.if-not-follows.false in
+    begins_piece agreed.0 c.args.before.now c.args.left.now c.split_at-3.result.0.now c.split_at-3.result.1.now c.length_at-len.result c.length_at-len.type_inv c.split_at-3.ensures.front_len
     (after_piece c.args.before.now c.args.left.now c.split_at-2.result.1.now c.split_at-3.result.0.now c.split_at-3.result.1.now c.length_at-len.result
     (after_head c.args.before.now c.args.left.now c.split_at.result.1.now c.split_at-2.result.1.now c.length_at-len.result
     (after_length c.args.left.now c.split_at.result.1.now c.length_at-len.result c.if-left-lt-LENGTH.false c.length_at-len.ensures c.split_at.ensures.back)
@@ -66,4 +68,4 @@ returns c =
     c.split_at-2.ensures.back)
     c.split_at-3.ensures.front c.split_at-3.ensures.back)
     c.if-rest-lt-SUM-2.false
-    (c.agrees-2.ensures.0 c.if-not-agrees-2.false ∙ ap (take (length c.split_at-3.result.1.now)) (sum_is c.args.before.now c.split_at-3.result.0.now c.head_of-head.result c.sum_of-sum.result c.length_at-len.result c.split_at-3.ensures.front_len c.head_of-head.ensures c.sum_of-sum.ensures))
+    (agreed.1 ∙ ap (take (length c.split_at-3.result.1.now)) (sum_is agreed.0 c.args.before.now c.split_at-3.result.0.now c.head_of-head.result c.length_at-len.result c.split_at-3.ensures.front_len c.head_of-head.ensures))

@@ -3,6 +3,6 @@ use Rattle.chained_log.proofs.NextPartsLemmas.{length_of_front}
 use Rattle.chained_log.proofs.reader.whole_length.Goals as goal
 
 pub returns : goal.returns
-returns c before piece lost fits enough is =
-    let whole = length_of_front before c.args.front.now piece lost c.length_at.result c.length_at.type_inv fits enough c.length_at.ensures is in
+returns c kind before piece lost fits enough is =
+    let whole = length_of_front kind before c.args.front.now piece lost c.length_at.result c.length_at.type_inv fits enough c.length_at.ensures is in
     omega (arith, whole)

@@ -3,11 +3,11 @@ import hashlib
 import os
 import shutil
 
-from lib.chained import HEAD, LINE, SUM, bounds, first_line, log
+from lib.chained import HEAD, LINE, SUM, bounds, first_line, full_sum_of, log, pieces_in, sum_of
 from folders.clients import ALICE
 from lib.folder import Folder, content, write
 from lib.frames import frame
-from folders.journals import TURNS, journaled
+from folders.journals import TURNS, journaled, show_done_again
 from lib.program import done, failed, sound
 
 UNREADABLE = failed("journal unreadable")
@@ -89,6 +89,25 @@ def show_zeros(checks, program, folder, pieces):
     for lost in (SUM, SUM + 1, len(last) - 1, len(last)):
         folder.set_log(b"".join(pieces[:-1]) + last[: len(last) - lost] + bytes(lost))
         checks.same(f"zeros in the last {lost} bytes", sound(count - 1), program.checked(folder.path))
+
+
+def show_sums(checks, program, work):
+    """A piece has one of two sums, of which the first is written, and either is read. With another sum it is altered."""
+    base, _ = journaled(checks, program, os.path.join(work, "base"))
+    name, count = base.name(), len(TURNS)
+    pieces, _ = pieces_in(name, base.log())
+    checks.same("the sum that is written", log(name, pieces), base.log())
+    for label, sums in {"full sums": [full_sum_of], "both, in turn": [sum_of, full_sum_of], "both, as they come": [full_sum_of, sum_of]}.items():
+        folder, whole = Folder(shutil.copytree(base.path, os.path.join(work, label))), log(name, pieces, sums)
+        for lost in (1, SUM - 1, SUM):
+            folder.set_log(whole[:-lost])
+            checks.same(f"{label}, without {lost} bytes", sound(count - 1), program.checked(folder.path))
+        places = bounds(whole)
+        for at in (*(end - 1 for end in places[1:]), *(end - SUM for end in places[1:]), *(end - SUM - 1 for end in places[1:])):
+            folder.set_log(whole[:at] + bytes([whole[at] ^ 1]) + whole[at + 1 :])
+            checks.same(f"{label}, byte {at}", UNREADABLE, program.checked(folder.path))
+        folder.set_log(whole)
+        show_done_again(checks, program, folder, label, count)
 
 
 def put(folder, name, standing, turns):

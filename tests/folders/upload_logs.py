@@ -6,7 +6,7 @@ import shutil
 
 from folders.logs import UNREADABLE, show_told
 from folders.sweeps import HOST
-from lib.chained import LINE, NAMELESS, SUM, bounds, lines_of, log
+from lib.chained import LINE, NAMELESS, SUM, bounds, full_sum_of, lines_of, log, pieces_in, sum_of
 from lib.folder import END, Folder, content, write
 from lib.frames import frame, framed, frames, replies
 from lib.live import Serving
@@ -217,6 +217,20 @@ def show_altered_logs(checks, program, work):
         other = Folder(shutil.copytree(folder.path, os.path.join(work, f"longer{len(tail)}")))
         show_told_as_before(checks, program, f"{len(tail)} bytes more", other)
         checks.same("no log is left", [], other.logs())
+
+
+def show_sums_of_logs(checks, program, work):
+    """The pieces of a log may have either of their two sums; the journal has the last of them."""
+    base, _ = logged(checks, program, work)
+    journal, (number, _, last) = content(base.journal_path()), base.referred()
+    pieces, _ = pieces_in(NAMELESS, content(base.uploads_path(number)))
+    for label, sums in {"full sums": [full_sum_of], "both": [sum_of, full_sum_of, full_sum_of]}.items():
+        folder, text = Folder(shutil.copytree(base.path, os.path.join(work, label))), log(NAMELESS, pieces, sums)
+        write(folder.uploads_path(number), text)
+        checks.same(f"{label}, another last one", UNREADABLE, program.checked(folder.path))
+        write(folder.journal_path(), journal.replace(last.hex().encode(), text[-SUM:].hex().encode()))
+        checks.same(label, sound(base.again()), program.checked(folder.path))
+        show_told_as_before(checks, program, label, folder)
 
 
 def show_things(checks, program, folder, path):

@@ -1,7 +1,10 @@
 """The form of a journal: a first line, perhaps one that refers to a log of uploads, and a log of pieces between sums."""
 import hashlib
 import re
+from functools import lru_cache
 from typing import NamedTuple
+
+from lib.siphash import siphash
 
 LINE = 75
 HEAD = 36
@@ -34,13 +37,24 @@ def sum_after(before, data):
     return hashlib.sha256(before + data).digest()
 
 
-def log(name, pieces):
-    """The log after this name, in digits."""
+@lru_cache(1024)
+def sum_of(head, piece):
+    """The sum of a piece, as it is written."""
+    return sum_after(head, siphash(head + piece).to_bytes(8, "big"))
+
+
+def full_sum_of(head, piece):
+    """The other sum that a piece may have."""
+    return sum_after(head, piece)
+
+
+def log(name, pieces, sums=(sum_of,)):
+    """The log after this name, in digits, whose pieces have these sums in turn."""
     before, written = bytes.fromhex(name), b""
-    for piece in pieces:
+    for at, piece in enumerate(pieces):
         length = len(piece).to_bytes(4, "big")
         head = sum_after(before, length)
-        before = sum_after(head, piece)
+        before = sums[at % len(sums)](head, piece)
         written += length + head + piece + before
     return written
 
@@ -56,12 +70,13 @@ def pieces_in(name, written):
         if len(length) == 4 and not head.startswith(told):
             return pieces, torn
         end = at + HEAD + int.from_bytes(length, "big")
-        piece, after = written[at + HEAD : end], written[end : end + SUM]
-        if len(after) < SUM and not (end <= len(written) and not sum_after(head, piece).startswith(after)):
+        if end > len(written):
             return pieces, "cut"
-        before = sum_after(head, piece)
-        if after != before:
+        piece, before = written[at + HEAD : end], written[end : end + SUM]
+        if not any(made(head, piece).startswith(before) for made in (sum_of, full_sum_of)):
             return pieces, torn
+        if len(before) < SUM:
+            return pieces, "cut"
         pieces.append(piece)
         at = end + SUM
     return pieces, "whole"

@@ -1,3 +1,4 @@
+pub mod Examples
 pub mod FoundLemmas
 pub mod LawLemmas
 pub mod NextLemmas

@@ -31,8 +31,8 @@ pub(crate) fn sum_of(before: &[u8; SUM], bytes: &[u8]) -> [u8; SUM]
     hasher.finalize()
 }
 
-// The digest of a piece after the sum of its head: SipHash-1-3, which takes a tenth of the time of SHA-256. It
-// has to distinguish only what a device altered.
+// The digest of a piece after the sum of its head: SipHash-1-3, which takes less than a tenth of the time of
+// SHA-256. It has to tell only what a device altered.
 fn digest_of(head: &[u8; SUM], piece: &[u8]) -> [u8; 8]
     ensures { result ≡ digest head.now piece.now }
 {

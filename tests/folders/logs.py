@@ -97,13 +97,13 @@ def show_sums(checks, program, work):
     name, count = base.name(), len(TURNS)
     pieces, _ = pieces_in(name, base.log())
     checks.same("the sum that is written", log(name, pieces), base.log())
-    for label, sums in {"full sums": [full_sum_of], "both, in turn": [sum_of, full_sum_of], "both, as they come": [full_sum_of, sum_of]}.items():
+    rows = {"full sums": [full_sum_of], "full ones second": [sum_of, full_sum_of], "full ones first": [full_sum_of, sum_of]}
+    for label, sums in rows.items():
         folder, whole = Folder(shutil.copytree(base.path, os.path.join(work, label))), log(name, pieces, sums)
         for lost in (1, SUM - 1, SUM):
             folder.set_log(whole[:-lost])
             checks.same(f"{label}, without {lost} bytes", sound(count - 1), program.checked(folder.path))
-        places = bounds(whole)
-        for at in (*(end - 1 for end in places[1:]), *(end - SUM for end in places[1:]), *(end - SUM - 1 for end in places[1:])):
+        for at in (end - back for end in bounds(whole)[1:] for back in (1, SUM, SUM + 1)):
             folder.set_log(whole[:at] + bytes([whole[at] ^ 1]) + whole[at + 1 :])
             checks.same(f"{label}, byte {at}", UNREADABLE, program.checked(folder.path))
         folder.set_log(whole)

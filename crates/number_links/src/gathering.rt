@@ -13,8 +13,7 @@ use crate::taking::take;
 use std::alloc::{AllocError, Global};
 
 // Adds a new number to `seen`. It waits, unless it is an end.
-#[inline(never)]
-fn enter_new(
+fn enter(
     ends: &NumberSet,
     n: u32,
     seen: &mut NumberSet,
@@ -31,23 +30,7 @@ fn enter_new(
     Ok(())
 }
 
-// The same, if it is new. Most numbers of a walk are not, so only the look at `seen` is inline.
-#[inline]
-fn enter(
-    ends: &NumberSet,
-    n: u32,
-    seen: &mut NumberSet,
-    waiting: &mut Vec<u32>,
-) -> Result<(), AllocError>
-    ensures { OnOk result (Enters 4294967296 (has ends.now) (n ∷ []) (has seen.old) waiting.old.items (has seen.new) waiting.new.items) }
-{
-    if seen.contains(n) {
-        return Ok(());
-    }
-    enter_new(ends, n, seen, waiting)
-}
-
-// Does the same for each of these numbers.
+// Does the same for each of these numbers that is new. Most numbers of a walk are not, so each is looked for here.
 fn enter_all(
     ends: &NumberSet,
     numbers: &[u32],
@@ -57,6 +40,9 @@ fn enter_all(
     ensures { OnOk result (Enters 4294967296 (has ends.now) numbers.now (has seen.old) waiting.old.items (has seen.new) waiting.new.items) }
 {
     for n in numbers {
+        if seen.contains(*n) {
+            continue;
+        }
         enter(ends, *n, seen, waiting)?;
     }
     Ok(())

@@ -136,14 +136,15 @@ pub fn repack<H: Files<File = File> + AllocGlobal + RandomSource>(
 {
     has_state(rt, alloc, dir)?;
     let (mut objects, _guards) = open_objects(rt, alloc, dir, false)?;
-    let done = match made(rt, alloc, dir, packed, &mut objects) {
+    let other = made(rt, alloc, dir, packed, &mut objects);
+    // Over NFS, a folder with an open file cannot be removed.
+    drop(objects);
+    match other {
         Ok(layout) => settled(rt, alloc, dir, layout),
         Err(fault) => {
             // What was made in vain goes.
             let _cleared = clear_repack(rt, alloc, dir);
             Err(fault)
         }
-    };
-    drop(objects);
-    done
+    }
 }

@@ -5,4 +5,5 @@ mod Examples
 pub mod LossLemmas
 pub mod NameLemmas
 pub mod SeenLemmas
+pub mod SinkLemmas
 pub mod TreeLemmas

@@ -4,3 +4,4 @@ pub mod Device
 pub mod Loss
 pub mod Note
 pub mod Runs
+pub mod Sink

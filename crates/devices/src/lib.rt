@@ -5,6 +5,7 @@
 mod bytes_left;
 mod device;
 mod fate;
+mod file_sink;
 mod kept;
 mod laws;
 mod left;
@@ -15,15 +16,18 @@ mod note;
 mod opened;
 mod real;
 mod seen;
+mod sink;
 mod std_files;
 mod text;
 mod tree;
 
 pub use crate::device::{Device, DeviceFault};
 pub use crate::fate::Fate;
+pub use crate::file_sink::FileSink;
 pub use crate::laws::{no_fates_lose_nothing, what_fates_choose_may_be_left};
 pub use crate::memory::Memory;
 pub use crate::real::Real;
+pub use crate::sink::Sink;
 pub use crate::std_files::{
     create_file, create_folder, create_folders, found, read_all, readable, regular, sync_folder,
 };

@@ -3,11 +3,11 @@ ghost use Rattle.std.specs.Prelude.{◌≡◌, IfOk, List, ℕ, OnOk, Option, []
 ghost use Rattle.std.specs.Io.KnownBytes.{Appends};
 ghost use Rattle.sha2.specs.Sha256.{sha256};
 
+use devices::Sink;
 use git_name::Name;
 use sha2::{Digest, Sha256};
 use std::alloc::{AllocError, Global};
 use std::io;
-use std::io::Write;
 
 // How many bytes are enough to be written.
 const ENOUGH: usize = 65_536;
@@ -48,11 +48,12 @@ impl Waiting {
     }
 
     // Writes what waits.
-    fn write_out<W: Write>(&mut self, writer: &mut W) -> io::Result<()>
+    fn write_out<W: Sink>(&mut self, writer: &mut W) -> io::Result<()>
         ensures puts { OnOk result (Puts (W.contents writer.old) (W.contents writer.new) self.old self.new []) }
         ensures none { OnOk result (self.new.lines.items ≡ []) }
+        ensures rest { W.rest writer.new ≡ W.rest writer.old }
     {
-        writer.write_all(self.lines.as_slice())?;
+        writer.append(self.lines.as_slice())?;
         self.hasher.update(self.lines.as_slice());
         self.len = self.len.saturating_add(self.lines.len() as u64);
         self.lines.clear();
@@ -60,8 +61,9 @@ impl Waiting {
     }
 
     /// Writes what waits, if it is enough.
-    pub(crate) fn settle<W: Write>(&mut self, writer: &mut W) -> io::Result<()>
-        ensures { OnOk result (Puts (W.contents writer.old) (W.contents writer.new) self.old self.new []) }
+    pub(crate) fn settle<W: Sink>(&mut self, writer: &mut W) -> io::Result<()>
+        ensures puts { OnOk result (Puts (W.contents writer.old) (W.contents writer.new) self.old self.new []) }
+        ensures rest { W.rest writer.new ≡ W.rest writer.old }
     {
         if self.lines.len() < ENOUGH {
             return Ok(());
@@ -70,8 +72,9 @@ impl Waiting {
     }
 
     /// Writes what waits, at the end of the text.
-    pub(crate) fn end<W: Write>(self, writer: &mut W) -> io::Result<Spelled>
-        ensures { IfOk result (λ spelled. (first : Option (List ℕ)) (text : List ℕ) → IsUnderWay first (W.contents writer.old) self text → Appends first (W.contents writer.new) text × (spelled.name ≡ sha256 text)) }
+    pub(crate) fn end<W: Sink>(self, writer: &mut W) -> io::Result<Spelled>
+        ensures whole { IfOk result (λ spelled. (first : Option (List ℕ)) (text : List ℕ) → IsUnderWay first (W.contents writer.old) self text → Appends first (W.contents writer.new) text × (spelled.name ≡ sha256 text)) }
+        ensures rest { W.rest writer.new ≡ W.rest writer.old }
     {
         let mut waiting = self;
         waiting.write_out(writer)?;

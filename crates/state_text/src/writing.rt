@@ -14,6 +14,7 @@ use crate::offer::Offer;
 use crate::states::States;
 use crate::tenant_state::TenantState;
 use crate::waiting::{Spelled, Waiting};
+use devices::Sink;
 use fork_request::{RepositoryName, TenantName};
 use git_name::Name;
 use git_refname::expand;
@@ -21,7 +22,6 @@ use git_reftx::{Refs, Repository};
 use itoa::Buffer;
 use std::alloc::{AllocError, Global};
 use std::io;
-use std::io::Write;
 
 // Writes the digits of a name.
 fn put_name(out: &mut Vec<u8>, name: &Name) -> Result<(), AllocError>
@@ -112,13 +112,14 @@ fn put_offer_line(
 }
 
 // Writes a line for each reference.
-fn put_references<W: Write>(
+fn put_references<W: Sink>(
     writer: &mut W,
     waiting: &mut Waiting,
     prefix: &[u8],
     references: &Refs,
 ) -> io::Result<()>
-    ensures { OnOk result (Puts (W.contents writer.old) (W.contents writer.new) waiting.old waiting.new (flat_map ended (map (λ reference. codes "ref " ++ encode_lower reference.1 ++ codes " " ++ prefix.now ++ reference.0) (entries references.now)))) }
+    ensures puts { OnOk result (Puts (W.contents writer.old) (W.contents writer.new) waiting.old waiting.new (flat_map ended (map (λ reference. codes "ref " ++ encode_lower reference.1 ++ codes " " ++ prefix.now ++ reference.0) (entries references.now)))) }
+    ensures rest { W.rest writer.new ≡ W.rest writer.old }
 {
     for (name, target) in references.iter() {
         put_reference(&mut waiting.lines, prefix, name, target)?;
@@ -128,7 +129,7 @@ fn put_references<W: Write>(
 }
 
 // Writes the lines of a repository's HEAD and references.
-fn put_inner<W: Write>(
+fn put_inner<W: Sink>(
     alloc: Global,
     writer: &mut W,
     waiting: &mut Waiting,
@@ -136,7 +137,8 @@ fn put_inner<W: Write>(
     name: &RepositoryName,
     repository: &Repository,
 ) -> io::Result<()>
-    ensures { OnOk result (Puts (W.contents writer.old) (W.contents writer.new) waiting.old waiting.new (flat_map ended (inner_lines Two tenant.now name.now repository.now))) }
+    ensures puts { OnOk result (Puts (W.contents writer.old) (W.contents writer.new) waiting.old waiting.new (flat_map ended (inner_lines Two tenant.now name.now repository.now))) }
+    ensures rest { W.rest writer.new ≡ W.rest writer.old }
 {
     let prefix = expand(alloc, tenant.as_bytes(), name.as_bytes())?;
     let head = repository.head().name().as_bytes();
@@ -146,7 +148,7 @@ fn put_inner<W: Write>(
 }
 
 // Writes the lines of a repository.
-fn put_repository<W: Write>(
+fn put_repository<W: Sink>(
     alloc: Global,
     writer: &mut W,
     waiting: &mut Waiting,
@@ -154,21 +156,23 @@ fn put_repository<W: Write>(
     name: &RepositoryName,
     repository: &Repository,
 ) -> io::Result<()>
-    ensures { OnOk result (Puts (W.contents writer.old) (W.contents writer.new) waiting.old waiting.new (flat_map ended (repository_lines Two tenant.now (name.now, repository.now)))) }
+    ensures puts { OnOk result (Puts (W.contents writer.old) (W.contents writer.new) waiting.old waiting.new (flat_map ended (repository_lines Two tenant.now (name.now, repository.now)))) }
+    ensures rest { W.rest writer.new ≡ W.rest writer.old }
 {
     put_repository_line(&mut waiting.lines, name)?;
     put_inner(alloc, writer, waiting, tenant, name, repository)
 }
 
 // Writes the lines of each repository.
-fn put_repositories<W: Write>(
+fn put_repositories<W: Sink>(
     alloc: Global,
     writer: &mut W,
     waiting: &mut Waiting,
     tenant: &TenantName,
     repositories: &[(RepositoryName, Repository)],
 ) -> io::Result<()>
-    ensures { OnOk result (Puts (W.contents writer.old) (W.contents writer.new) waiting.old waiting.new (flat_map ended (flat_map (repository_lines Two tenant.now) repositories.now))) }
+    ensures puts { OnOk result (Puts (W.contents writer.old) (W.contents writer.new) waiting.old waiting.new (flat_map ended (flat_map (repository_lines Two tenant.now) repositories.now))) }
+    ensures rest { W.rest writer.new ≡ W.rest writer.old }
 {
     for (name, repository) in repositories {
         put_repository(alloc, writer, waiting, tenant, name, repository)?;
@@ -177,8 +181,9 @@ fn put_repositories<W: Write>(
 }
 
 // Writes a line for each name.
-fn put_seen<W: Write>(writer: &mut W, waiting: &mut Waiting, names: &[Name]) -> io::Result<()>
-    ensures { OnOk result (Puts (W.contents writer.old) (W.contents writer.new) waiting.old waiting.new (flat_map ended (map seen_line names.now))) }
+fn put_seen<W: Sink>(writer: &mut W, waiting: &mut Waiting, names: &[Name]) -> io::Result<()>
+    ensures puts { OnOk result (Puts (W.contents writer.old) (W.contents writer.new) waiting.old waiting.new (flat_map ended (map seen_line names.now))) }
+    ensures rest { W.rest writer.new ≡ W.rest writer.old }
 {
     for name in names {
         put_seen_line(&mut waiting.lines, name)?;
@@ -188,14 +193,15 @@ fn put_seen<W: Write>(writer: &mut W, waiting: &mut Waiting, names: &[Name]) -> 
 }
 
 // Writes the lines of an offer.
-fn put_offer<W: Write>(
+fn put_offer<W: Sink>(
     alloc: Global,
     writer: &mut W,
     waiting: &mut Waiting,
     tenant: &TenantName,
     offer: &Offer,
 ) -> io::Result<()>
-    ensures { OnOk result (Puts (W.contents writer.old) (W.contents writer.new) waiting.old waiting.new (flat_map ended (offer_lines Two tenant.now offer.now))) }
+    ensures puts { OnOk result (Puts (W.contents writer.old) (W.contents writer.new) waiting.old waiting.new (flat_map ended (offer_lines Two tenant.now offer.now))) }
+    ensures rest { W.rest writer.new ≡ W.rest writer.old }
 {
     put_offer_line(&mut waiting.lines, offer.receiver(), offer.name())?;
     put_inner(
@@ -209,14 +215,15 @@ fn put_offer<W: Write>(
 }
 
 // Writes the lines of each offer.
-fn put_offers<W: Write>(
+fn put_offers<W: Sink>(
     alloc: Global,
     writer: &mut W,
     waiting: &mut Waiting,
     tenant: &TenantName,
     offers: &[Offer],
 ) -> io::Result<()>
-    ensures { OnOk result (Puts (W.contents writer.old) (W.contents writer.new) waiting.old waiting.new (flat_map ended (flat_map (offer_lines Two tenant.now) offers.now))) }
+    ensures puts { OnOk result (Puts (W.contents writer.old) (W.contents writer.new) waiting.old waiting.new (flat_map ended (flat_map (offer_lines Two tenant.now) offers.now))) }
+    ensures rest { W.rest writer.new ≡ W.rest writer.old }
 {
     for offer in offers {
         put_offer(alloc, writer, waiting, tenant, offer)?;
@@ -225,13 +232,14 @@ fn put_offers<W: Write>(
 }
 
 // Writes the lines of a tenant.
-fn put_tenant<W: Write>(
+fn put_tenant<W: Sink>(
     alloc: Global,
     writer: &mut W,
     waiting: &mut Waiting,
     tenant: &TenantState,
 ) -> io::Result<()>
-    ensures { OnOk result (Puts (W.contents writer.old) (W.contents writer.new) waiting.old waiting.new (flat_map ended (tenant_lines Two tenant.now))) }
+    ensures puts { OnOk result (Puts (W.contents writer.old) (W.contents writer.new) waiting.old waiting.new (flat_map ended (tenant_lines Two tenant.now))) }
+    ensures rest { W.rest writer.new ≡ W.rest writer.old }
 {
     put_tenant_line(&mut waiting.lines, tenant.name(), tenant.limit())?;
     put_repositories(alloc, writer, waiting, tenant.name(), tenant.repositories())?;
@@ -240,13 +248,14 @@ fn put_tenant<W: Write>(
 }
 
 // Writes the lines of each tenant.
-fn put_tenants<W: Write>(
+fn put_tenants<W: Sink>(
     alloc: Global,
     writer: &mut W,
     waiting: &mut Waiting,
     tenants: &[TenantState],
 ) -> io::Result<()>
-    ensures { OnOk result (Puts (W.contents writer.old) (W.contents writer.new) waiting.old waiting.new (flat_map ended (flat_map (tenant_lines Two) tenants.now))) }
+    ensures puts { OnOk result (Puts (W.contents writer.old) (W.contents writer.new) waiting.old waiting.new (flat_map ended (flat_map (tenant_lines Two) tenants.now))) }
+    ensures rest { W.rest writer.new ≡ W.rest writer.old }
 {
     for tenant in tenants {
         put_tenant(alloc, writer, waiting, tenant)?;
@@ -256,8 +265,9 @@ fn put_tenants<W: Write>(
 
 /// Writes the text of the states in version 2, in pieces of some 64 KiB and in time linear in its length. After an `Err`
 /// a front of it may be written.
-pub fn write<W: Write>(alloc: Global, states: &States, writer: &mut W) -> io::Result<Spelled>
+pub fn write<W: Sink>(alloc: Global, states: &States, writer: &mut W) -> io::Result<Spelled>
     ensures text { OnOk result (Appends (W.contents writer.old) (W.contents writer.new) (state_text Two states.now)) }
+    ensures rest { W.rest writer.new ≡ W.rest writer.old }
     ensures name { IfOk result (λ spelled. spelled.name ≡ sha256 (state_text Two states.now)) }
     ensures told { IsStateText2 states.now (state_text Two states.now) }
 {

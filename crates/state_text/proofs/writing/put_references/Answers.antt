@@ -1,4 +1,4 @@
-use Rattle.std.proofs.Common.{◌≡◌, ◌++◌, ◌∷◌, codes, map, refl, rules, subst, List, ℕ, ap}
+use Rattle.std.proofs.Common.{◌≡◌, ◌++◌, ◌∷◌, codes, map, refl, rules, subst, List, ℕ, ap, ◌∙◌}
 use Rattle.std.specs.FinMap.{entries}
 use Rattle.std.specs.List.{flat_map}
 use Rattle.hex.specs.Hex.{encode_lower}
@@ -12,8 +12,11 @@ loop-name-preserved g c =
     let first : List ℕ × List ℕ = (c.in-Some.name.now, c.in-Some.target.now) in
     let all = flat_map ended (map line (entries c.args.references.now)) in
     let steps : c.loop-name.name-iterator ≡ first ∷ c.next.new.self = search rules in
-    let before : PutsSoFar (g.W.Write.contents c.args.writer.now) (g.W.Write.contents c.loop-name.writer) c.args.waiting.now c.loop-name.waiting (ended (line first) ++ flat_map ended (map line c.next.new.self)) all =
-    subst (λ left. PutsSoFar (g.W.Write.contents c.args.writer.now) (g.W.Write.contents c.loop-name.writer) c.args.waiting.now c.loop-name.waiting left all) (ap (λ es. flat_map ended (map line es)) steps) c.loop-name.invariant in
+    let before : PutsSoFar (g.W.Sink.contents c.args.writer.now) (g.W.Sink.contents c.loop-name.writer) c.args.waiting.now c.loop-name.waiting (ended (line first) ++ flat_map ended (map line c.next.new.self)) all =
+    subst (λ left. PutsSoFar (g.W.Sink.contents c.args.writer.now) (g.W.Sink.contents c.loop-name.writer) c.args.waiting.now c.loop-name.waiting left all) (ap (λ es. flat_map ended (map line es)) steps) c.loop-name.invariant.puts in
     let grown = record c.loop-name.waiting { lines = c.put_reference.new.out } in
-    put_more (g.W.Write.contents c.args.writer.now) (g.W.Write.contents c.loop-name.writer) (g.W.Write.contents c.settle.new.writer) c.args.waiting.now c.loop-name.waiting c.settle.new.self (ended (line first)) (flat_map ended (map line c.next.new.self)) all before
-    (line_settled (g.W.Write.contents c.loop-name.writer) (g.W.Write.contents c.settle.new.writer) c.loop-name.waiting grown c.settle.new.self (ended (line first)) refl c.in_ok-put_reference.ensures c.in_ok-settle.ensures)
+    record {
+      puts = put_more (g.W.Sink.contents c.args.writer.now) (g.W.Sink.contents c.loop-name.writer) (g.W.Sink.contents c.settle.new.writer) c.args.waiting.now c.loop-name.waiting c.settle.new.self (ended (line first)) (flat_map ended (map line c.next.new.self)) all before
+          (line_settled (g.W.Sink.contents c.loop-name.writer) (g.W.Sink.contents c.settle.new.writer) c.loop-name.waiting grown c.settle.new.self (ended (line first)) refl c.in_ok-put_reference.ensures c.in_ok-settle.ensures.puts);
+      rest = c.settle.ensures.rest ∙ c.loop-name.invariant.rest;
+    }

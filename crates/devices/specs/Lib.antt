@@ -2,6 +2,8 @@ pub mod Copy
 pub mod Crash
 pub mod Device
 pub mod Loss
+pub mod Moments
 pub mod Note
+pub mod Parts
 pub mod Runs
 pub mod Sink

@@ -3,6 +3,8 @@ ghost use Rattle.std.specs.FinMap as map;
 ghost use Rattle.devices.specs.Device.{Past, Does, Wrote, Added, Moved, Removed, SyncedFile, SyncedFolder, Untried, files_of, names_in_folder, part_of, within};
 
 use std::alloc::{AllocError, AllocFailed, Global};
+use std::io;
+use std::io::ErrorKind;
 use thiserror::Error;
 
 /// Why a call of a device failed.
@@ -27,6 +29,16 @@ impl From<AllocError> for DeviceFault {
 impl<T: Drop> From<AllocFailed<T>> for DeviceFault {
     fn from(_: AllocFailed<T>) -> Self {
         DeviceFault::Memory
+    }
+}
+
+impl From<DeviceFault> for io::Error {
+    fn from(fault: DeviceFault) -> Self {
+        match fault {
+            DeviceFault::Memory => io::Error::from(ErrorKind::OutOfMemory),
+            DeviceFault::Missing => io::Error::from(ErrorKind::NotFound),
+            DeviceFault::Device | DeviceFault::Unopened => io::Error::from(ErrorKind::Other),
+        }
     }
 }
 

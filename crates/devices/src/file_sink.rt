@@ -4,7 +4,6 @@ ghost use Rattle.devices.specs.Sink.{Beside, bytes_known, past_beside};
 use crate::device::{Device, DeviceFault};
 use crate::sink::Sink;
 use std::io;
-use std::io::ErrorKind;
 
 /// The end of a file of a device. The first append creates a file that does not exist.
 pub struct FileSink<'a, D: Device> {
@@ -12,20 +11,12 @@ pub struct FileSink<'a, D: Device> {
     pub path: &'a str,
 }
 
-fn error_of(fault: DeviceFault) -> io::Error {
-    match fault {
-        DeviceFault::Memory => io::Error::from(ErrorKind::OutOfMemory),
-        DeviceFault::Missing => io::Error::from(ErrorKind::NotFound),
-        DeviceFault::Device | DeviceFault::Unopened => io::Error::from(ErrorKind::Other),
-    }
-}
-
 fn passed(answer: Result<(), DeviceFault>) -> io::Result<()>
     ensures { IfOk result (λ value. answer ≡ Ok value) }
 {
     match answer {
         Ok(()) => Ok(()),
-        Err(fault) => Err(error_of(fault)),
+        Err(fault) => Err(io::Error::from(fault)),
     }
 }
 

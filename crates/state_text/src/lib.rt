@@ -5,6 +5,7 @@
 #![tactic(auto)]
 
 mod fault;
+mod file;
 mod last;
 mod laws;
 mod line_fault;
@@ -23,6 +24,7 @@ mod waiting;
 mod writing;
 
 pub use crate::fault::{AddError, OfferError, StateFault};
+pub use crate::file::write_file;
 pub use crate::laws::{one_value, one_wrong_line};
 pub use crate::offer::Offer;
 pub use crate::reading::read;

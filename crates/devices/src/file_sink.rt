@@ -6,6 +6,7 @@ use crate::sink::Sink;
 use std::io;
 
 /// The end of a file of a device. The first append creates a file that does not exist.
+#[derive(Drop)]
 pub struct FileSink<'a, D: Device> {
     pub device: &'a mut D,
     pub path: &'a str,

@@ -4,6 +4,7 @@ pub mod CopyLemmas
 pub mod BeforeLemmas
 mod Examples
 pub mod LossLemmas
+pub mod MomentLemmas
 pub mod NameLemmas
 pub mod PartLemmas
 pub mod SeenLemmas

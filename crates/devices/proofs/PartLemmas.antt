@@ -1,14 +1,15 @@
 -- What a loss of power may leave while a part is written, and when it takes the place of another file.
-use Rattle.std.proofs.Common.{◌≡◌, ◌≢◌, ◌≤◌, ◌<◌, ◌⊎◌, inl, inr, ℕ, suc, ◌&&◌, Bool, true, false, cond, List, [], ◌∷◌, ◌++◌, Option, Some, None, Result, Ok, Err, option_map, length, nat_eq, refl, sym, ◌∙◌, ap, subst, arith}
+use Rattle.std.proofs.Common.{◌≡◌, ◌≢◌, ◌≤◌, ◌<◌, ◌⊎◌, inl, inr, ℕ, suc, ◌&&◌, Bool, true, false, cond, List, [], ◌∷◌, ◌++◌, Option, Some, None, Result, Ok, Err, option_map, length, nat_eq, refl, sym, ◌∙◌, ap, subst, arith, append_assoc}
 use Rattle.std.specs.Cmp.Lexicographic.{pointwise}
 use Rattle.std.specs.FinMap.{get}
 use Rattle.devices.specs.Crash.{File, Names, MayNames, MayBytes, MayLeave, Stands, IsIn, set, moved, added_to, names_after, bytes_after, is_file, has_failed, folder_has_failed}
 use Rattle.devices.specs.Device.{Files, Effect, Past, IsPart, Wrote, Added, Moved, Removed, SyncedFile, SyncedFolder, FailedFile, FailedFolder, files_of, with_effect}
-use Rattle.devices.specs.Moments.{HoldsAtEach, LeavesOnly, Throughout, past_with}
-use Rattle.devices.specs.Parts.{AreAppends, AreOf, IsAppend, IsOf, IsWritten, MayStand, WritesPart, placing}
+use Rattle.devices.specs.Moments.{HoldsAtEach, Throughout, past_with}
+use Rattle.devices.specs.Parts.{AreAppends, AreOf, IsAppend, IsOf, IsSure, IsWritten, LeavesAs, LeavesAsOr, MayStand, WritesPart, placing}
 use Rattle.devices.specs.Runs.{Runs}
 use Rattle.devices.proofs.BeforeLemmas.{aged, before, older}
 use Rattle.devices.proofs.ByteLemmas.{the_file}
+use Rattle.devices.proofs.MomentLemmas.{throughout_none}
 use Rattle.devices.proofs.NameLemmas.{one_text, same_text}
 use Rattle.devices.proofs.SeenLemmas.{not_true, seen_aged, seen_bytes, set_here, set_other}
 
@@ -113,38 +114,25 @@ still part old effects begun q off found (m, may, stands) =
     by None age is = is
     by (Some f) age (x, is, stood) = (x, is, begun.bytes f x (age f refl) stood)
 
--- a loss of power leaves at a path what it might have left there in this past
-abbrev pub Left : Past → List ℕ → Files → Type 0
-Left old q left = MayStand old q (get left q)
-
-left_at : (past : Past) (left : Files) (q : List ℕ) → MayLeave past.base past.effects left → MayStand past q (get left q)
+pub left_at : (past : Past) (left : Files) (q : List ℕ) → MayLeave past.base past.effects left → MayStand past q (get left q)
 left_at past left q (m, may, stands) = (m, may, stands q)
 
-part_each : (part first q : List ℕ) (old : Past) (done : List Effect) → pointwise nat_eq part q ≡ false → AreOf part done → HoldsAtEach (LeavesOnly (Left old q)) (with_effect old (Wrote part first)) done
-part_each part first q old [] off each = λ left may. still part old (Wrote part first ∷ old.effects) (wrote_begun part old first) q off (get left q) (left_at (with_effect old (Wrote part first)) left q may)
-part_each part first q old (e ∷ done) off each =
-    (λ left may. still part old (e ∷ (done ++ Wrote part first ∷ old.effects)) (all_begun part first old (e ∷ done) each) q off (get left q) (left_at (past_with (with_effect old (Wrote part first)) (e ∷ done)) left q may), part_each part first q old done off each.1)
+part_each : (part first q : List ℕ) (old : Past) (done : List Effect) → pointwise nat_eq part q ≡ false → AreOf part done → HoldsAtEach (LeavesAs old q) (with_effect old (Wrote part first)) done
+part_each part first q old [] off each = still part old (Wrote part first ∷ old.effects) (wrote_begun part old first) q off
+part_each part first q old (e ∷ done) off each = (still part old (e ∷ (done ++ Wrote part first ∷ old.effects)) (all_begun part first old (e ∷ done) each) q off, part_each part first q old done off each.1)
 
 -- the same moments, counted from before the first write
 from_first : (P : Past → Type 0) (old : Past) (e : Effect) (done : List Effect) → P old → HoldsAtEach P (with_effect old e) done → HoldsAtEach P old (done ++ e ∷ [])
 from_first P old e [] was each = (each, was)
-from_first P old e (f ∷ done) was each = (subst (λ (es : List Effect). P (record old { effects = f ∷ es })) (sym (joined done)) each.0, from_first P old e done was each.1)
-  where
-    joined : (done : List Effect) → (done ++ e ∷ []) ++ old.effects ≡ done ++ e ∷ old.effects
-    joined [] = refl
-    joined (g ∷ done) = ap (λ (es : List Effect). g ∷ es) (joined done)
+from_first P old e (f ∷ done) was each = (subst (λ (es : List Effect). P (record old { effects = f ∷ es })) (sym (append_assoc done (e ∷ []) old.effects)) each.0, from_first P old e done was each.1)
 
-pub part_leaves : (part q : List ℕ) (old new : Past) → pointwise nat_eq part q ≡ false → WritesPart part old new → Throughout (LeavesOnly (Left old q)) old new
-part_leaves part q old new off (inl is) = record { done = []; all = is; each = λ left may. left_at old left q may }
+pub part_leaves : (part q : List ℕ) (old new : Past) → pointwise nat_eq part q ≡ false → WritesPart part old new → Throughout (LeavesAs old q) old new
+part_leaves part q old new off (inl is) = throughout_none (LeavesAs old q) old new is (λ left may. may)
 part_leaves part q old new off (inr (first, done, each, is)) = record {
   done = done ++ Wrote part first ∷ [];
-  all = is ∙ ap (λ (es : List Effect). record old { effects = es }) (sym (joined done));
-  each = from_first (LeavesOnly (Left old q)) old (Wrote part first) done (λ left may. left_at old left q may) (part_each part first q old done off each);
+  all = is ∙ ap (λ (es : List Effect). record old { effects = es }) (sym (append_assoc done (Wrote part first ∷ []) old.effects));
+  each = from_first (LeavesAs old q) old (Wrote part first) done (λ left may. may) (part_each part first q old done off each);
 }
-  where
-    joined : (done : List Effect) → (done ++ Wrote part first ∷ []) ++ old.effects ≡ done ++ Wrote part first ∷ old.effects
-    joined [] = refl
-    joined (g ∷ done) = ap (λ (es : List Effect). g ∷ es) (joined done)
 
 -- ---- a part that was synced
 appends_of : (part : List ℕ) (e : Effect) → IsAppend part e → IsOf part e
@@ -277,40 +265,46 @@ module _ (part path folder text : List ℕ) (old : Past) (pieces : List Effect) 
       (subst (λ (o : Option File). Stands old.base sure.effects o found) (may.1 (as_made.folder_as ∙ unfailed) path is_in ∙ moved_to (names_after old.base synced.effects)) stands)))
 
   abbrev Each : Past → Type 0
-  Each = LeavesOnly (λ left. OldOrNew (get left path))
-
-  hold : (past : Past) → ((found : Option (List ℕ)) → MayStand past path found → OldOrNew found) → Each past
-  hold past at left may = at (get left path) (left_at past left path may)
+  Each = LeavesAsOr old path text
 
   to_there : Throughout Each synced there
-  to_there = record { done = Moved part path ∷ []; all = refl; each = (hold there at_there, hold synced at_synced) }
+  to_there = record { done = Moved part path ∷ []; all = refl; each = (at_there, at_synced) }
 
   to_failed : Throughout Each synced (with_effect there (FailedFolder folder))
-  to_failed = record { done = FailedFolder folder ∷ Moved part path ∷ []; all = refl; each = (hold (with_effect there (FailedFolder folder)) at_failed, (hold there at_there, hold synced at_synced)) }
+  to_failed = record { done = FailedFolder folder ∷ Moved part path ∷ []; all = refl; each = (at_failed, (at_there, at_synced)) }
 
   to_sure : Throughout Each synced sure
-  to_sure = record { done = SyncedFolder folder ∷ Moved part path ∷ []; all = refl; each = (hold sure at_sure, (hold there at_there, hold synced at_synced)) }
+  to_sure = record { done = SyncedFolder folder ∷ Moved part path ∷ []; all = refl; each = (at_sure, (at_there, at_synced)) }
 
   by_run : {A E : Type 0} (new : Past) (r : Result A E) → Runs {A = A} {E = E} (placing part path folder) synced new r → Throughout Each synced new
   by_run new (Ok answer) is = subst (Throughout Each synced) (sym is) to_sure
-  by_run new (Err fault) (inl is) = record { done = []; all = is; each = hold synced at_synced }
+  by_run new (Err fault) (inl is) = record { done = []; all = is; each = at_synced }
   by_run new (Err fault) (inr (inl (cut, of, is))) = subst (Throughout Each synced) (sym (is ∙ ap (with_effect synced) of)) to_there
   by_run new (Err fault) (inr (inr (inl is))) = subst (Throughout Each synced) (sym is) to_there
   by_run new (Err fault) (inr (inr (inr (inl (cut, of, is))))) = subst (Throughout Each synced) (sym (is ∙ ap (with_effect there) of)) to_failed
   by_run new (Err fault) (inr (inr (inr (inr is)))) = subst (Throughout Each synced) (sym is) to_sure
 
-  end_run : {A : Type 0} (E : Type 0) (new : Past) (answer : A) → Runs {A = A} {E = E} (placing part path folder) synced new (Ok answer) → IsIn folder path → folder_has_failed old.effects folder ≡ false → LeavesOnly (λ left. get left path ≡ Some text) new
-  end_run E new answer is is_in unfailed = subst (LeavesOnly (λ left. get left path ≡ Some text)) (sym is) (λ left may. sure_found is_in unfailed (get left path) (left_at sure left path may))
+  folder_same : folder_has_failed sure.effects folder ≡ folder_has_failed old.effects folder
+  folder_same = as_made.folder_as
 
-pub placed_each : {A E : Type 0} (part path folder text : List ℕ) (old mid new : Past) (result : Result A E) → pointwise nat_eq part path ≡ false → IsWritten part text old mid → Runs {A = A} {E = E} (placing part path folder) mid new result
-    → Throughout (LeavesOnly (λ left. MayStand old path (get left path) ⊎ (get left path ≡ Some text))) mid new
-placed_each {A} {E} part path folder text old mid new result off written runs =
-    subst (λ (p : Past). Throughout (LeavesOnly (λ left. MayStand old path (get left path) ⊎ (get left path ≡ Some text))) p new) (sym written.all)
-    (by_run part path folder text old written.pieces written.each off (subst (λ (p : Past). get (files_of p) part ≡ Some text) written.all written.bytes) {A = A} {E = E} new result
-    (subst (λ (p : Past). Runs {A = A} {E = E} (placing part path folder) p new result) written.all runs))
+module _ (part path folder text : List ℕ) (old mid new : Past) (off : pointwise nat_eq part path ≡ false) (written : IsWritten part text old mid) where
+  whole : get (files_of (past_with (with_effect old (Wrote part [])) (SyncedFile part ∷ written.pieces))) part ≡ Some text
+  whole = subst (λ (p : Past). get (files_of p) part ≡ Some text) written.all written.bytes
 
-pub placed_end : {A : Type 0} (E : Type 0) (part path folder text : List ℕ) (old mid new : Past) (answer : A) → pointwise nat_eq part path ≡ false → IsWritten part text old mid → Runs {A = A} {E = E} (placing part path folder) mid new (Ok answer) → IsIn folder path
-    → folder_has_failed old.effects folder ≡ false → LeavesOnly (λ left. get left path ≡ Some text) new
-placed_end {A} E part path folder text old mid new answer off written runs is_in unfailed =
-    end_run part path folder text old written.pieces written.each off (subst (λ (p : Past). get (files_of p) part ≡ Some text) written.all written.bytes) E new answer
-    (subst (λ (p : Past). Runs {A = A} {E = E} (placing part path folder) p new (Ok answer)) written.all runs) is_in unfailed
+  pub placed_each : {A E : Type 0} (result : Result A E) → Runs {A = A} {E = E} (placing part path folder) mid new result → Throughout (LeavesAsOr old path text) mid new
+  placed_each {A} {E} result runs =
+      subst (λ (p : Past). Throughout (LeavesAsOr old path text) p new) (sym written.all)
+      (by_run part path folder text old written.pieces written.each off whole {A = A} {E = E} new result (subst (λ (p : Past). Runs {A = A} {E = E} (placing part path folder) p new result) written.all runs))
+
+  ended : {A : Type 0} (E : Type 0) (answer : A) → Runs {A = A} {E = E} (placing part path folder) mid new (Ok answer) → new ≡ sure part path folder text old written.pieces written.each off whole
+  ended {A} E answer runs = subst (λ (p : Past). Runs {A = A} {E = E} (placing part path folder) p new (Ok answer)) written.all runs
+
+  pub placed_sure : {A : Type 0} (E : Type 0) (answer : A) → Runs {A = A} {E = E} (placing part path folder) mid new (Ok answer) → IsIn folder path → folder_has_failed old.effects folder ≡ false → IsSure new path (Some text)
+  placed_sure {A} E answer runs is_in unfailed = subst (λ (p : Past). IsSure p path (Some text)) (sym (ended E answer runs)) (sure_found part path folder text old written.pieces written.each off whole is_in unfailed)
+
+  pub placed_names : {A : Type 0} (E : Type 0) (answer : A) → Runs {A = A} {E = E} (placing part path folder) mid new (Ok answer) → folder_has_failed new.effects folder ≡ folder_has_failed old.effects folder
+  placed_names {A} E answer runs = ap (λ (p : Past). folder_has_failed p.effects folder) (ended E answer runs) ∙ folder_same part path folder text old written.pieces written.each off whole
+
+-- a part that was written is one that is written
+pub part_written : (part text : List ℕ) (old new : Past) → IsWritten part text old new → WritesPart part old new
+part_written part text old new written = inr ([], SyncedFile part ∷ written.pieces, (refl, all_of part written.pieces written.each), written.all)

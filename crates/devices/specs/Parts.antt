@@ -9,6 +9,18 @@ use Rattle.devices.specs.Moments.{past_with}
 abbrev pub MayStand : Past → List ℕ → Option (List ℕ) → Type 0
 MayStand past path found = (names : Names) × MayNames past.base past.effects names × Stands past.base past.effects (names path) found
 
+-- whatever a loss of power leaves at a path, it is this
+abbrev pub IsSure : Past → List ℕ → Option (List ℕ) → Type 0
+IsSure past path found = (left : Option (List ℕ)) → MayStand past path left → left ≡ found
+
+-- whatever a loss of power leaves at a path, it might have left it there in the older past
+abbrev pub LeavesAs : Past → List ℕ → Past → Type 0
+LeavesAs old path past = (left : Option (List ℕ)) → MayStand past path left → MayStand old path left
+
+-- the same, or it is this text
+abbrev pub LeavesAsOr : Past → List ℕ → List ℕ → Past → Type 0
+LeavesAsOr old path text past = (left : Option (List ℕ)) → MayStand past path left → MayStand old path left ⊎ (left ≡ Some text)
+
 -- the effect writes to the file at this path, or syncs it
 abbrev pub IsOf : List ℕ → Effect → Type 0
 IsOf path (Wrote other bytes) = other ≡ path

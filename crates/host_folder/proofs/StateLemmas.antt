@@ -1,8 +1,14 @@
--- The paths of the state and of its part.
-use Rattle.std.proofs.Common.{◌≡◌, ◌≢◌, ℕ, ◌||◌, Bool, true, false, List, [], ◌∷◌, nat_eq, refl, sym, ◌∙◌, ap}
+-- The state and its part: their paths, and what a loss of power leaves of the state.
+use Rattle.std.proofs.Common.{◌≡◌, ◌≢◌, ◌⊎◌, inl, inr, ℕ, ◌||◌, Bool, true, false, List, [], ◌∷◌, Option, Some, nat_eq, refl, sym, ◌∙◌, ap}
 use Rattle.std.specs.Cmp.Lexicographic.{pointwise}
+use Rattle.std.specs.FinMap.{get}
 use Rattle.std.specs.List.{list_any}
 use Rattle.devices.specs.Crash.{HasNoSlash, IsIn}
+use Rattle.devices.specs.Device.{Past}
+use Rattle.devices.specs.Moments.{LeavesOnly, Throughout}
+use Rattle.devices.specs.Parts.{IsSure, LeavesAs, LeavesAsOr, MayStand}
+use Rattle.devices.proofs.MomentLemmas.{throughout_map, throughout_then}
+use Rattle.devices.proofs.PartLemmas.{left_at}
 use Rattle.devices.proofs.NameLemmas.{neither, same_text}
 use Rattle.devices.proofs.SeenLemmas.{clash}
 use Rattle.host_folder.specs.State.{part_file, state_file}
@@ -19,3 +25,23 @@ no_slash (b ∷ bytes) none =
 -- the state is right in the folder of its device
 pub state_is_in : IsIn [] state_file
 state_is_in = (state_file, refl, no_slash state_file refl)
+
+-- a state that is sure, while it stays as it was
+module _ (before : Option (List ℕ)) (old : Past) (sure : IsSure old state_file before) where
+  pub stays_sure : (new : Past) → Throughout (LeavesAs old state_file) old new → Throughout (LeavesOnly (λ left. get left state_file ≡ before)) old new
+  stays_sure new all =
+      throughout_map (LeavesAs old state_file) (LeavesOnly (λ left. get left state_file ≡ before)) (λ past leaves left may. sure (get left state_file) (leaves (get left state_file) (left_at past left state_file may))) old new all
+
+-- the state before, or the new one
+abbrev EitherIsLeft : Option (List ℕ) → List ℕ → Past → Type 0
+EitherIsLeft before text = LeavesOnly (λ left. (get left state_file ≡ before) ⊎ (get left state_file ≡ Some text))
+
+pub either_left : (before : Option (List ℕ)) (text : List ℕ) (old mid new : Past) → IsSure old state_file before → Throughout (LeavesAs old state_file) old mid → Throughout (LeavesAsOr old state_file text) mid new
+    → Throughout (LeavesOnly (λ left. (get left state_file ≡ before) ⊎ (get left state_file ≡ Some text))) old new
+either_left before text old mid new sure first then =
+    throughout_then (EitherIsLeft before text) old mid new (throughout_map (LeavesAs old state_file) (EitherIsLeft before text) (λ past leaves left may. inl (sure (get left state_file) (leaves (get left state_file) (left_at past left state_file may)))) old mid first)
+    (throughout_map (LeavesAsOr old state_file text) (EitherIsLeft before text) (λ past leaves left may. which (get left state_file) (leaves (get left state_file) (left_at past left state_file may))) mid new then)
+  where
+    which : (found : Option (List ℕ)) → (MayStand old state_file found ⊎ (found ≡ Some text)) → (found ≡ before) ⊎ (found ≡ Some text)
+    which found (inl may) = inl (sure found may)
+    which found (inr is) = inr is

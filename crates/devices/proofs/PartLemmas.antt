@@ -1,9 +1,9 @@
 -- What a loss of power may leave while a part is written, and when it takes the place of another file.
-use Rattle.std.proofs.Common.{◌≡◌, ◌≢◌, ◌≤◌, ◌<◌, ◌⊎◌, inl, inr, ℕ, suc, ◌&&◌, Bool, true, false, cond, List, [], ◌∷◌, ◌++◌, Option, Some, None, Result, Ok, Err, option_map, length, nat_eq, refl, sym, ◌∙◌, ap, subst, arith, append_assoc}
+use Rattle.std.proofs.Common.{◌≡◌, ◌≢◌, ◌≤◌, ◌<◌, ◌⊎◌, inl, inr, ℕ, suc, Bool, true, false, cond, List, [], ◌∷◌, ◌++◌, Option, Some, None, Result, Ok, Err, option_map, length, nat_eq, refl, sym, ◌∙◌, ap, subst, arith, append_assoc}
 use Rattle.std.specs.Cmp.Lexicographic.{pointwise}
 use Rattle.std.specs.FinMap.{get}
-use Rattle.devices.specs.Crash.{File, Names, MayNames, MayBytes, MayLeave, Stands, IsIn, set, moved, added_to, names_after, bytes_after, is_file, has_failed, folder_has_failed}
-use Rattle.devices.specs.Device.{Files, Effect, Past, IsPart, Wrote, Added, Moved, Removed, SyncedFile, SyncedFolder, FailedFile, FailedFolder, files_of, with_effect}
+use Rattle.devices.specs.Crash.{File, Names, MayNames, MayBytes, MayLeave, Stands, IsIn, set, moved, added_to, names_after, bytes_after, has_failed, folder_has_failed}
+use Rattle.devices.specs.Device.{Files, Effect, Past, Wrote, Added, Moved, Removed, SyncedFile, SyncedFolder, FailedFile, FailedFolder, files_of, with_effect}
 use Rattle.devices.specs.Moments.{HoldsAtEach, Throughout, past_with}
 use Rattle.devices.specs.Parts.{AreAppends, AreOf, IsAppend, IsOf, IsSure, IsWritten, LeavesAs, LeavesAsOr, MayStand, WritesPart, placing}
 use Rattle.devices.specs.Runs.{Runs}
@@ -11,7 +11,7 @@ use Rattle.devices.proofs.BeforeLemmas.{aged, before, older}
 use Rattle.devices.proofs.ByteLemmas.{the_file}
 use Rattle.devices.proofs.MomentLemmas.{throughout_none}
 use Rattle.devices.proofs.NameLemmas.{one_text, same_text}
-use Rattle.devices.proofs.SeenLemmas.{not_true, seen_aged, seen_bytes, set_here, set_other}
+use Rattle.devices.proofs.SeenLemmas.{not_true, seen_aged, seen_bytes, set_here}
 
 pub paths_apart : (p q : List ℕ) → p ≢ q → pointwise nat_eq p q ≡ false
 paths_apart p q differ = not_true _ (λ same. differ (one_text p q same))

@@ -6,14 +6,14 @@ use Rattle.devices.specs.Device.{Effect, Past, Does, Wrote, Moved, Removed, Sync
 use Rattle.devices.specs.Runs.{Runs}
 use Rattle.git_name.specs.Name.{IsName}
 use Rattle.folder_store.specs.Lasting.{ForgetsFiles, IsLasting, IsPlaceSafe, IsSafe, IsSafeAt, IsUnfailed, Lasts, PutsFile, SweepsFile}
-use Rattle.folder_store.specs.Moments.{Throughout}
+use Rattle.devices.specs.Moments.{Throughout}
 use Rattle.folder_store.specs.Place.{part_of, place_of, swept_of}
 use Rattle.folder_store.specs.Swept.{put_steps}
 use Rattle.folder_store.proofs.LastingLemmas.{IsOff, file_off, lasts_unswept, part_off, part_off_swept, place_off_swept, places_apart, removed_here, safe_at_off, safe_off, swept_apart, swept_off_place}
-use Rattle.folder_store.proofs.MomentLemmas.{does_throughout, run_throughout, throughout_end, throughout_none, throughout_one, throughout_then}
+use Rattle.devices.proofs.MomentLemmas.{does_throughout, run_throughout, throughout_end, throughout_none, throughout_one, throughout_then, KeptBy, KeptByAll, does_keep, run_keeps}
 use Rattle.folder_store.proofs.PlaceLemmas.{one_text, same_text}
 use Rattle.folder_store.proofs.ContentLemmas.{clash}
-use Rattle.folder_store.proofs.StepLemmas.{KeptBy, KeptByAll, IsSweptSafe, does_keep, run_keeps, both_off, off_keeps, own_swept, part_removed, place_keeps, place_part_removed, put_other, put_place, put_swept, removed_unseen, swept_keeps, swept_part_removed, synced_file}
+use Rattle.folder_store.proofs.StepLemmas.{IsSweptSafe, both_off, off_keeps, own_swept, part_removed, place_keeps, place_part_removed, put_other, put_place, put_swept, removed_unseen, swept_keeps, swept_part_removed, synced_file}
 
 -- ---- calls that fail no sync
 unfailed_as : (old new : Past) → IsUnfailed old → new ≡ old → IsUnfailed new

@@ -13,7 +13,8 @@ use Rattle.folder_store.proofs.ContentLemmas.{get_file, not_true, one_key, same_
 use Rattle.folder_store.proofs.PlaceLemmas.{one_text, part_has_none, place_has, same_text}
 use Rattle.folder_store.proofs.SweptLemmas.{swept_has}
 use Rattle.folder_store.specs.Lasting.{as_read, HasSureBytes, IsSafe, IsSafeAt, Lasts}
-use Rattle.folder_store.proofs.LossLemmas.{IsOfNames, touches, aged, before, names_off, older, seen_may, stood_at}
+use Rattle.devices.proofs.BeforeLemmas.{IsOfNames, aged, before, names_off, older, seen_may, stood_at}
+use Rattle.devices.specs.Loss.{touches}
 
 -- ---- what a loss of power leaves
 pub left_whole : (past : Past) (name : List ℕ) (left : Files) → IsName name → IsSafe past name → MayLeave past.base past.effects left → is_whole name (opened left name) ≡ true

@@ -5,8 +5,6 @@ pub mod Examples
 pub mod LastingLemmas
 pub mod LifeLemmas
 pub mod ListingLemmas
-pub mod LossLemmas
-pub mod MomentLemmas
 pub mod NotedLemmas
 pub mod OpeningLemmas
 pub mod PlaceLemmas

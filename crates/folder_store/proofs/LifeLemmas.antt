@@ -8,12 +8,12 @@ use Rattle.git_name.specs.Name.{IsName}
 use Rattle.folder_store.specs.Calls.{Call}
 use Rattle.folder_store.specs.Lasting.{as_read, IsBothSafe, IsLasting, IsSafe, IsUnfailed}
 use Rattle.folder_store.specs.Lives.{IsMoment, Life, Lives, fresh}
-use Rattle.folder_store.specs.Moments.{HoldsAtEach, Throughout, past_with}
+use Rattle.devices.specs.Moments.{HoldsAtEach, Throughout, past_with}
 use Rattle.folder_store.specs.Place.{place_of, swept_of}
 use Rattle.folder_store.specs.Swept.{is_whole, opened, put_back}
 use Rattle.folder_store.proofs.ContentLemmas.{get_file}
 use Rattle.folder_store.proofs.LastingLemmas.{lasts_unswept, left_whole}
-use Rattle.folder_store.proofs.MomentLemmas.{last_of, throughout_end, throughout_map, throughout_then}
+use Rattle.devices.proofs.MomentLemmas.{last_of, throughout_end, throughout_map, throughout_then}
 use Rattle.folder_store.proofs.StandingLemmas.{still_lasts}
 
 -- ---- a device to which nothing was done

@@ -9,14 +9,15 @@ use Rattle.devices.specs.Runs.{Runs}
 use Rattle.git_name.specs.Name.{IsName}
 use Rattle.folder_store.specs.Contents.{contents_of}
 use Rattle.folder_store.specs.Lasting.{as_read, AllSafe, IsBothSafe, IsSafe, IsUnfailed}
-use Rattle.folder_store.specs.Moments.{Throughout}
+use Rattle.devices.specs.Moments.{Throughout}
 use Rattle.folder_store.specs.Place.{home_with, name_at, place_of, swept_at, swept_of}
 use Rattle.folder_store.specs.Swept.{is_whole, put_back, steps_back}
 use Rattle.folder_store.specs.Synced.{IsSync}
 use Rattle.folder_store.proofs.ContentLemmas.{clash, get_file}
 use Rattle.folder_store.proofs.LastingLemmas.{apart, there_whole, place_off_swept, places_apart, safe_at_off, safe_by_place, safe_off, swept_apart, swept_off_place}
-use Rattle.folder_store.proofs.LossLemmas.{seen_may, set_here}
-use Rattle.folder_store.proofs.MomentLemmas.{throughout_end, throughout_none, throughout_one, throughout_then}
+use Rattle.devices.proofs.BeforeLemmas.{seen_may}
+use Rattle.devices.proofs.SeenLemmas.{set_here}
+use Rattle.devices.proofs.MomentLemmas.{throughout_end, throughout_none, throughout_one, throughout_then}
 use Rattle.folder_store.proofs.NotedLemmas.{whole_there}
 use Rattle.folder_store.proofs.PlaceLemmas.{one_text, place_has, same_text}
 use Rattle.folder_store.proofs.StepLemmas.{both_off, same_safe}

@@ -7,14 +7,14 @@ use Rattle.devices.specs.Device.{Effect, Past, Does, Wrote, Moved, Removed, Sync
 use Rattle.devices.specs.Runs.{Runs}
 use Rattle.git_name.specs.Name.{IsName}
 use Rattle.folder_store.specs.Lasting.{as_read, HasSureBytes, IsLasting, IsSafeAt, IsUnfailed, Lasts}
-use Rattle.folder_store.specs.Moments.{Throughout}
+use Rattle.devices.specs.Moments.{Throughout}
 use Rattle.folder_store.specs.Place.{part_of, place_of, swept_of}
 use Rattle.folder_store.specs.Swept.{is_whole, put_steps}
 use Rattle.folder_store.proofs.LastingLemmas.{IsOff, file_off, none_or, part_off_place, part_off_swept, safe_by_swept, sure_off}
-use Rattle.folder_store.proofs.LossLemmas.{set_here}
-use Rattle.folder_store.proofs.MomentLemmas.{does_throughout, throughout_end, throughout_map, throughout_none, throughout_one, throughout_then}
+use Rattle.devices.proofs.SeenLemmas.{set_here}
+use Rattle.devices.proofs.MomentLemmas.{does_throughout, throughout_end, throughout_map, throughout_none, throughout_one, throughout_then, KeptBy}
 use Rattle.folder_store.proofs.PlaceLemmas.{same_text}
-use Rattle.folder_store.proofs.StepLemmas.{KeptBy, put_swept, swept_keeps}
+use Rattle.folder_store.proofs.StepLemmas.{put_swept, swept_keeps}
 
 -- ---- a part that was synced
 module _ (old : Past) (name part bytes : List ℕ) where

@@ -9,16 +9,16 @@ use Rattle.devices.specs.Runs.{Runs}
 use Rattle.git_name.specs.Name.{IsName}
 use Rattle.folder_store.specs.Calls.{Call, CallsAll, CallsSparing, Calls, Forgets, IsAnswered, IsTold, LeaveAll, Puts, Reads, Removes, Spares, Standing, Syncs, standing}
 use Rattle.folder_store.specs.Lasting.{as_read, ForgetsFiles, IsLasting, IsPlaceSafe, IsSafe, IsSafeAt, IsUnfailed, Lasts, PutsFile, SweepsFile}
-use Rattle.folder_store.specs.Moments.{HoldsAtEach, Throughout, past_with}
+use Rattle.devices.specs.Moments.{HoldsAtEach, Throughout, past_with}
 use Rattle.folder_store.specs.Place.{home_with, place_of, swept_of}
 use Rattle.folder_store.specs.Swept.{is_whole, move_syncs, put_back}
 use Rattle.folder_store.specs.Synced.{HasOnlySyncs, IsSync, OnlySyncs, SyncsBoth}
 use Rattle.folder_store.proofs.LastingLemmas.{lasts_by_place, safe_by_swept}
 use Rattle.folder_store.proofs.ContentLemmas.{clash}
-use Rattle.folder_store.proofs.LossLemmas.{seen_may}
-use Rattle.folder_store.proofs.MomentLemmas.{run_throughout, throughout_end, throughout_map, throughout_none, throughout_then}
+use Rattle.devices.proofs.BeforeLemmas.{seen_may}
+use Rattle.devices.proofs.MomentLemmas.{run_throughout, throughout_end, throughout_map, throughout_none, throughout_then, KeptByAll}
 use Rattle.folder_store.proofs.PlaceLemmas.{one_text, same_text}
-use Rattle.folder_store.proofs.StepLemmas.{KeptByAll, place_keeps, synced_folder, unseen}
+use Rattle.folder_store.proofs.StepLemmas.{place_keeps, synced_folder, unseen}
 use Rattle.folder_store.proofs.SyncLemmas.{only_files, syncs_then}
 use Rattle.folder_store.proofs.SyncedLemmas.{alone_safe, syncs_safe, syncs_sure, syncs_throughout, syncs_unfailed}
 

@@ -9,31 +9,10 @@ use Rattle.folder_store.specs.Place.{part_of, place_of, swept_of}
 use Rattle.folder_store.specs.Swept.{is_whole, put_back}
 use Rattle.folder_store.proofs.PlaceLemmas.{same_text}
 use Rattle.folder_store.specs.Lasting.{as_read, HasSureBytes, IsLasting, IsPlaceSafe, IsSafe, IsSafeAt, Lasts}
-use Rattle.folder_store.proofs.LossLemmas.{IsOfNames, seen_may, set_here, set_other, older, stood_at}
+use Rattle.devices.proofs.BeforeLemmas.{IsOfNames, seen_may, older, stood_at}
+use Rattle.devices.proofs.MomentLemmas.{KeptBy, KeptByAll}
+use Rattle.devices.proofs.SeenLemmas.{set_here, set_other, seen_bytes}
 use Rattle.folder_store.proofs.LastingLemmas.{IsOff, part_off, lasts_off, lasts_unplaced, by_swept, safe_at_off, places_apart, part_off_place, part_off_swept, place_off_swept, swept_off_place, removed_here, put_off}
-use Rattle.devices.proofs.SeenLemmas.{seen_bytes}
-
--- ---- calls
--- the property is kept by an effect, and by what a call that fails may have done of it
-pub record KeptBy (P : Past → Type 0) (e : Effect) : Type 0 where
-  pub whole : (p : Past) → P p → P (with_effect p e)
-  pub part : (p : Past) (part : Effect) → IsPart e part → P p → P (with_effect p part)
-
-pub does_keep : {A E : Type 0} (P : Past → Type 0) (e : Effect) (old new : Past) (result : Result A E) → KeptBy P e → Does e old new result → P old → P new
-does_keep P e old new (Ok answer) kept is was = subst P (sym is) (kept.whole old was)
-does_keep P e old new (Err fault) kept (inl is) was = subst P (sym is) was
-does_keep P e old new (Err fault) kept (inr (part, is_part, is)) was = subst P (sym is) (kept.part old part is_part was)
-
-abbrev pub KeptByAll : (Past → Type 0) → List Effect → Type 0
-KeptByAll P [] = Unit {0}
-KeptByAll P (e ∷ effects) = KeptBy P e × KeptByAll P effects
-
-pub run_keeps : {A E : Type 0} (P : Past → Type 0) (effects : List Effect) (old new : Past) (result : Result A E) → KeptByAll P effects → Runs effects old new result → P old → P new
-run_keeps {A} {E} P [] old new result kept is was = subst P (sym is) was
-run_keeps {A} {E} P (e ∷ effects) old new (Ok answer) kept runs was = run_keeps {A = A} {E = E} P effects (with_effect old e) new (Ok answer) kept.1 runs (kept.0.whole old was)
-run_keeps {A} {E} P (e ∷ effects) old new (Err fault) kept (inl is) was = subst P (sym is) was
-run_keeps {A} {E} P (e ∷ effects) old new (Err fault) kept (inr (inl (part, is_part, is))) was = subst P (sym is) (kept.0.part old part is_part was)
-run_keeps {A} {E} P (e ∷ effects) old new (Err fault) kept (inr (inr runs)) was = run_keeps {A = A} {E = E} P effects (with_effect old e) new (Err fault) kept.1 runs (kept.0.whole old was)
 
 -- ---- effects at other paths
 abbrev pub IsSweptSafe : List ℕ → Past → Type 0

@@ -12,7 +12,7 @@ use Rattle.folder_store.specs.Place.{home_with, name_of_parts, place_of, swept_o
 use Rattle.folder_store.specs.Swept.{is_whole, put_back}
 use Rattle.folder_store.specs.Synced.{IsSync, OnlySyncs, first_of}
 use Rattle.folder_store.specs.Lasting.{as_read, HasSureBytes, IsPlaceSafe, IsSafe, IsSafeAt, IsUnfailed}
-use Rattle.folder_store.specs.Moments.{HoldsAtEach, Throughout, past_with}
+use Rattle.devices.specs.Moments.{HoldsAtEach, Throughout, past_with}
 use Rattle.folder_store.proofs.ContentLemmas.{clash}
 use Rattle.folder_store.proofs.ListingLemmas.{no_slash}
 use Rattle.folder_store.proofs.PlaceLemmas.{at_home, part_lengths, place_has, one_text}

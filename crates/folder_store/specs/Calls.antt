@@ -4,7 +4,7 @@ use Rattle.std.specs.FinMap.{get}
 use Rattle.devices.specs.Device.{Past, files_of}
 use Rattle.git_name.specs.Name.{IsName}
 use Rattle.folder_store.specs.Lasting.{IsPlaceSafe, IsSafe, IsSafeAt, IsUnfailed, Lasts, LastsAs}
-use Rattle.folder_store.specs.Moments.{Throughout}
+use Rattle.devices.specs.Moments.{Throughout}
 use Rattle.folder_store.specs.Place.{place_of, swept_of}
 use Rattle.folder_store.specs.Swept.{is_whole}
 

@@ -4,7 +4,7 @@ use Rattle.std.specs.FinMap.{get}
 use Rattle.devices.specs.Crash.{File, MayBytes, MayNames, Names, Stands, folder_has_failed, has_failed, names_after}
 use Rattle.devices.specs.Device.{Past, files_of, within}
 use Rattle.git_name.specs.Name.{IsName}
-use Rattle.folder_store.specs.Moments.{Throughout}
+use Rattle.devices.specs.Moments.{Throughout}
 use Rattle.folder_store.specs.Place.{place_of, swept_of}
 use Rattle.folder_store.specs.Swept.{is_whole, put_back}
 use Rattle.folder_store.specs.declared.max_file.TheConstants.{MAX_FILE}

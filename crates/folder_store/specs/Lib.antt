@@ -3,7 +3,6 @@ pub mod Contents
 pub mod Lasting
 pub mod Listing
 pub mod Lives
-pub mod Moments
 pub mod Place
 pub mod Swept
 pub mod Synced

@@ -4,7 +4,7 @@ use Rattle.devices.specs.Crash.{MayLeave}
 use Rattle.devices.specs.Device.{Effect, Files, Past}
 use Rattle.folder_store.specs.Calls.{Call, CallsSparing, IsTold, Standing}
 use Rattle.folder_store.specs.Lasting.{AllSafe}
-use Rattle.folder_store.specs.Moments.{past_with}
+use Rattle.devices.specs.Moments.{past_with}
 
 -- a device to which nothing was done yet
 abbrev pub fresh : Files → Past

@@ -6,7 +6,7 @@ ghost use Rattle.loose_store.specs.Files.{Files};
 ghost use Rattle.folder_store.specs.Calls.{Call, CallsAll, CallsSparing, IsTold, LeaveAll, Standing};
 ghost use Rattle.folder_store.specs.Lasting.{IsPlaceSafe, IsSafe, IsUnfailed, LastsAs};
 ghost use Rattle.folder_store.specs.Lives.{Lives};
-ghost use Rattle.folder_store.specs.Moments.{LeavesOnly, Throughout};
+ghost use Rattle.devices.specs.Moments.{LeavesOnly, Throughout};
 ghost use Rattle.folder_store.specs.Swept.{is_whole, opened};
 
 /// A law, with no code to run: if power is lost, an opening of whatever is left shows a whole file of each name that is safe.

@@ -1,10 +1,10 @@
 use Rattle.std.proofs.Common.{◌≡◌, true}
 use Rattle.devices.specs.Device.{Files}
 use Rattle.folder_store.specs.Lasting.{IsPlaceSafe}
-use Rattle.folder_store.specs.Moments.{LeavesOnly}
+use Rattle.devices.specs.Moments.{LeavesOnly}
 use Rattle.folder_store.specs.Swept.{is_whole, opened}
 use Rattle.folder_store.proofs.LastingLemmas.{left_whole, safe_by_place}
-use Rattle.folder_store.proofs.MomentLemmas.{throughout_map}
+use Rattle.devices.proofs.MomentLemmas.{throughout_map}
 use Rattle.folder_store.proofs.StandingLemmas.{left_safe}
 use Rattle.folder_store.proofs.laws.what_was_synced_lasts.Goals as goal
 

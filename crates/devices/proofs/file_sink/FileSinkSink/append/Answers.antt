@@ -1,4 +1,3 @@
-use Rattle.std.proofs.Common.{ap}
 use Rattle.devices.proofs.SinkLemmas.{appended}
 use Rattle.devices.proofs.file_sink.FileSinkSink.append.Goals as goal
 

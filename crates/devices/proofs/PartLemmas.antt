@@ -134,6 +134,26 @@ part_leaves part q old new off (inr (first, done, each, is)) = record {
   each = from_first (LeavesAs old q) old (Wrote part first) done (λ left may. may) (part_each part first q old done off each);
 }
 
+-- no sync of a folder fails meanwhile
+one_names : (part folder : List ℕ) (e : Effect) (effects : List Effect) → IsOf part e → folder_has_failed (e ∷ effects) folder ≡ folder_has_failed effects folder
+one_names part folder (Wrote path bytes) effects is = refl
+one_names part folder (Added path bytes) effects is = refl
+one_names part folder (Moved from to) effects is = absurd is
+one_names part folder (Removed path) effects is = absurd is
+one_names part folder (SyncedFile path) effects is = refl
+one_names part folder (SyncedFolder other) effects is = absurd is
+one_names part folder (FailedFile path) effects is = refl
+one_names part folder (FailedFolder other) effects is = absurd is
+
+all_names : (part folder : List ℕ) (done effects : List Effect) → AreOf part done → folder_has_failed (done ++ effects) folder ≡ folder_has_failed effects folder
+all_names part folder [] effects each = refl
+all_names part folder (e ∷ done) effects each = one_names part folder e (done ++ effects) each.0 ∙ all_names part folder done effects each.1
+
+pub part_names : (part folder : List ℕ) (old new : Past) → WritesPart part old new → folder_has_failed new.effects folder ≡ folder_has_failed old.effects folder
+part_names part folder old new (inl is) = ap (λ (p : Past). folder_has_failed p.effects folder) is
+part_names part folder old new (inr (first, done, each, is)) =
+    ap (λ (p : Past). folder_has_failed p.effects folder) is ∙ all_names part folder done (Wrote part first ∷ old.effects) each
+
 -- ---- a part that was synced
 appends_of : (part : List ℕ) (e : Effect) → IsAppend part e → IsOf part e
 appends_of part (Wrote path bytes) is = absurd is

@@ -8,7 +8,9 @@ use std::io;
 /// The end of a file of a device. The first append creates a file that does not exist.
 #[derive(Drop)]
 pub struct FileSink<'a, D: Device> {
+    /// The device of the file.
     pub device: &'a mut D,
+    /// The path of the file.
     pub path: &'a str,
 }
 

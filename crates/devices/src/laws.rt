@@ -20,9 +20,10 @@ pub fn what_fates_choose_may_be_left()
 {}
 
 /// A law, with no code to run: while a part is written, a loss of power leaves at any other path what it might have left there
-/// before.
+/// before, and no sync of a folder fails.
 pub fn a_part_leaves_other_files()
-    ensures { (part path : List ℕ) (old new : Past) → part ≢ path → WritesPart part old new → Throughout (LeavesAs old path) old new }
+    ensures each { (part path : List ℕ) (old new : Past) → part ≢ path → WritesPart part old new → Throughout (LeavesAs old path) old new }
+    ensures names { (part folder : List ℕ) (old new : Past) → WritesPart part old new → folder_has_failed new.effects folder ≡ folder_has_failed old.effects folder }
 {}
 
 /// A law, with no code to run: when a part that was written and synced takes the place of a file, a loss of power leaves there

@@ -7,7 +7,7 @@ use Rattle.devices.specs.Crash.{HasNoSlash, IsIn}
 use Rattle.devices.specs.Device.{Past}
 use Rattle.devices.specs.Moments.{LeavesOnly, Throughout}
 use Rattle.devices.specs.Parts.{IsSure, LeavesAs, LeavesAsOr, MayStand}
-use Rattle.devices.proofs.MomentLemmas.{throughout_map, throughout_then}
+use Rattle.devices.proofs.MomentLemmas.{throughout_end, throughout_map, throughout_then}
 use Rattle.devices.proofs.PartLemmas.{left_at}
 use Rattle.devices.proofs.NameLemmas.{neither, same_text}
 use Rattle.devices.proofs.SeenLemmas.{clash}
@@ -31,6 +31,9 @@ module _ (before : Option (List ℕ)) (old : Past) (sure : IsSure old state_file
   pub stays_sure : (new : Past) → Throughout (LeavesAs old state_file) old new → Throughout (LeavesOnly (λ left. get left state_file ≡ before)) old new
   stays_sure new all =
       throughout_map (LeavesAs old state_file) (LeavesOnly (λ left. get left state_file ≡ before)) (λ past leaves left may. sure (get left state_file) (leaves (get left state_file) (left_at past left state_file may))) old new all
+
+  pub is_sure_still : (new : Past) → Throughout (LeavesAs old state_file) old new → IsSure new state_file before
+  is_sure_still new all left may = sure left (throughout_end (LeavesAs old state_file) old new all left may)
 
 -- the state before, or the new one
 abbrev EitherIsLeft : Option (List ℕ) → List ℕ → Past → Type 0

@@ -11,9 +11,11 @@ ghost use Rattle.host_folder.specs.State.{part_file, state_file};
 use devices::{a_part_leaves_other_files, a_part_takes_its_place_at_once};
 
 /// A law, with no code to run: if a loss of power is sure to leave a state, it leaves it at each moment while the part of another
-/// one is written.
+/// one is written, and is sure to do so afterwards, whether that failed or not.
 pub fn a_part_leaves_the_state()
-    ensures { (before : Option (List ℕ)) (old new : Past) → IsSure old state_file before → WritesPart part_file old new → Throughout (LeavesOnly (λ left. get left state_file ≡ before)) old new }
+    ensures each { (before : Option (List ℕ)) (old new : Past) → IsSure old state_file before → WritesPart part_file old new → Throughout (LeavesOnly (λ left. get left state_file ≡ before)) old new }
+    ensures sure { (before : Option (List ℕ)) (old new : Past) → IsSure old state_file before → WritesPart part_file old new → IsSure new state_file before }
+    ensures names { (old new : Past) → WritesPart part_file old new → folder_has_failed new.effects [] ≡ folder_has_failed old.effects [] }
 {
     a_part_leaves_other_files();
 }

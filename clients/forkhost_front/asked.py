@@ -13,6 +13,8 @@ BY_HAND = {"init": "REPO", "drop": "REPO", "fork": "SRC DST", "head": "REPO", "s
 BY_HAND |= {"offer": "REPO TENANT", "withdraw": "REPO TENANT", "offers": "", FORKS_OFFER: "GIVER REPO DST"}
 BY_HAND |= {"repos": "", "quota": "", "prune": "", "for-each-ref": "REPO ..", "cat-file": "NAME", "ls-tree": "NAME"}
 BY_HAND |= {"rev-list": "REPO ITEM ..", "merge-base": "REPO ITEM ITEM"}
+# The last word is the repository that they make.
+MAKING = ("init", "fork", FORKS_OFFER)
 # Their words begin with an object.
 OF_OBJECTS = ("cat-file", "ls-tree")
 USAGE = "use 'git clone', 'git fetch' or 'git push', or one of: " + ", ".join(BY_HAND)
@@ -28,6 +30,10 @@ class Asked:
     def repository(self) -> "str | None":
         """The repository that a program of Git's is asked for; None where the word is no name."""
         return repository_of(self.rest[0].strip("/"))
+
+    def made(self) -> "str | None":
+        """The repository that a request by hand makes."""
+        return self.rest[-1] if self.word in MAKING else None
 
     def logged(self) -> "str | None":
         """The repository for the log: by hand as the host is asked for it. None where the word is no name."""

@@ -23,7 +23,8 @@ def ask(settings: Settings, asked: Asked, entry: Entry, sink) -> None:
 
 
 def forget(settings: Settings, asked: Asked, tenant: str) -> None:
-    """What is dropped has no cache any more; what was pruned may be in any."""
+    """What is dropped has no cache any more, and what is made has none yet; what was pruned may be in any."""
+    changed = asked.rest[0] if asked.word == "drop" else asked.made()
     for place in places_of(settings, tenant):
-        if asked.word == "prune" or (asked.word == "drop" and place.name == asked.rest[0]):
+        if asked.word == "prune" or place.name == changed:
             remove(settings, place, asked.word)

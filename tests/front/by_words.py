@@ -45,6 +45,7 @@ def show_words(world):
     checks.same("s is not found", (128, True), (ran.status, ran.fault.startswith(said)))
     checks.same("and leaves no file", [False] * 3, [os.path.exists(world.cache("s") + end) for end in ENDS])
     show_log(world)
+    show_left(world)
     show_no_commands(world)
     world.host.ends_well(checks, "after words")
 
@@ -66,6 +67,19 @@ def show_offer(world):
     checks.same("withdraw", done(), told("alice", "withdraw", "r", "bob"))
     checks.same("withdraw again", no("no-offer bob/r"), told("alice", "withdraw", "r", "bob"))
     checks.same("none stands", done(), told("bob", "offers"))
+
+
+def show_left(world):
+    """A repository goes in another way than by the front end: who makes one of its name finds nothing of it."""
+    tip = world.name("source", "main")
+    for label, words in {"init": ["init", "left"], "fork": ["fork", "r", "left"]}.items():
+        world.ask("alice", "init", "left")
+        world.succeeds(f"{label}: a push", world.git("source", "push", "-q", world.url("left"), "main"))
+        world.ask("alice", "drop", "left")
+        world.checks.same(f"{label}: the cache is left", True, tip in world.in_cache("left"))
+        world.checks.same(label, done(), world.by_hand("alice", *words))
+        world.checks.same(f"{label}: the cache is gone", [False] * 3, [os.path.exists(world.cache("left") + end) for end in ENDS])
+        world.ask("alice", "drop", "left")
 
 
 ENDS = ("", ".lock", ".use")

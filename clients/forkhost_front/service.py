@@ -11,6 +11,8 @@ from .settings import Settings
 
 PIECE = 1 << 16
 STANDARD_INPUT, STANDARD_OUTPUT = 0, 1
+# Git's own bound of one piece of memory while it reads a push: a delta of a few bytes can stand for any length.
+MOST_MEMORY = {"GIT_ALLOC_LIMIT": "256m"}
 
 
 class Served:
@@ -69,7 +71,7 @@ class Service:
 
     def outer(self, more: dict, told: int) -> dict:
         """What the program and its hooks are told. Git finds the folder by its words."""
-        found = {**environment(self.cache.path, self.settings.bytes), **more}
+        found = {**environment(self.cache.path, self.settings.bytes), **more, **(MOST_MEMORY if self.is_push else {})}
         del found["GIT_DIR"]
         address = self.cache.address
         found |= {hooked.TENANT: address.tenant, hooked.REPOSITORY: address.repository}

@@ -1,5 +1,7 @@
 """What is refused, by the host and by Git's own check at the door: in which words, and that nothing comes of it."""
+import hashlib
 import random
+import zlib
 
 from client.killed import great
 from lib.making import commit, commit_of, hashed, line, tree_of
@@ -89,6 +91,39 @@ def show_served(world, label, tip):
     world.checks.same(f"{label}: what is not there", 128, ran.status)
     world.succeeds(f"{label}: the next", world.git(None, "ls-remote", world.url("r", "carol")))
     world.checks.same(f"{label}: nothing is made anew", [], [row for row in world.logged() if row[1] == "cache"])
+
+
+def varint(number):
+    """As a delta begins (gitformat-pack(5))."""
+    return bytes([number & 127 | 128]) + varint(number >> 7) if number > 127 else bytes([number])
+
+
+def headed(kind, length):
+    """The header of an object in a pack."""
+    first, rest = kind << 4 | length & 15, length >> 4
+    return bytes([first | 128]) + varint(rest) if rest else bytes([first])
+
+
+def unfolding(piece, times):
+    """A pack of zeros, and of a delta that repeats them."""
+    zeros, copy = bytes(piece), b"\xf0" + piece.to_bytes(3, "little")
+    delta = varint(piece) + varint(piece * times) + copy * times
+    pack = b"PACK" + (2).to_bytes(4, "big") * 2 + headed(3, piece) + zlib.compress(zeros)
+    pack += headed(7, len(delta)) + hashlib.sha256(b"blob %d\0" % piece + zeros).digest() + zlib.compress(delta)
+    return pack + hashlib.sha256(pack).digest()
+
+
+def show_unfolding(world):
+    """A push of some thousand bytes that unpacks to 384 MiB: Git refuses it before it has the memory."""
+    world.init("alice", "r")
+    command = f"{'0' * 64} {'ab' * 32} refs/tags/t\0report-status object-format=sha256".encode()
+    given = b"%04x%s0000" % (len(command) + 4, command) + unfolding(8 << 20, 48)
+    more = {"SSH_ORIGINAL_COMMAND": "git-receive-pack r"}
+    ran = world.ran(world.shell(), "--settings", world.path("front"), "alice", given=given, more=more)
+    wanted = (True, True, True)
+    told = (len(given) < 20_000, b"over limit 268435456" in ran.fault, b"ng refs/tags/t unpacker error" in ran.output)
+    world.checks.same("a small push of a large object", wanted, told)
+    world.checks.same("is not there", [], world.kept("r"))
 
 
 def show_mixed(world, first, second):

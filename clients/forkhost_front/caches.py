@@ -1,6 +1,9 @@
 """All caches of a front end: together they have a bound in bytes, and those that were used least recently go."""
 import os
 
+from forkhost_client.address import is_tenant
+from forkhost_client.faults import Fatal
+
 from . import seal
 from .cache import Cache
 from .settings import Settings
@@ -15,8 +18,9 @@ class Place:
 
 
 def places(settings: Settings):
+    """Nothing else in the folder is looked at: a file system of its own has a folder that only root may read."""
     for tenant in os.scandir(settings.caches):
-        if tenant.is_dir():
+        if is_tenant(tenant.name) and tenant.is_dir():
             yield from places_of(settings, tenant.name)
 
 
@@ -40,8 +44,16 @@ def remove(settings: Settings, place: Place, why: str) -> bool:
     return is_gone
 
 
-def make_room(settings: Settings) -> None:
-    """Removes what was used least recently, until the rest keeps within the bound."""
+def make_room(settings: Settings, cache: Cache) -> None:
+    """Removes what was used least recently. Where that fails, the request of this cache was served all the same."""
+    try:
+        keep_within(settings)
+    except (Fatal, OSError) as fault:
+        cache.tell("no-room", str(fault))
+
+
+def keep_within(settings: Settings) -> None:
+    """Until the rest keeps within the bound."""
     found = sorted(places(settings), key=lambda place: place.used)
     sizes = {place: size(settings, place) for place in found}
     total = sum(sizes.values())

@@ -61,7 +61,7 @@ class Service:
             if has_grown:
                 from .caches import make_room
 
-                make_room(self.settings)
+                make_room(self.settings, self.cache)
 
     def told(self, refusal: Refused) -> str:
         """Why the host did not show the repository, in words."""

@@ -167,6 +167,28 @@ def show_no_commands(world):
         world.checks.same(f"wrong settings: {text!r}", (128, True), (ran.status, said.encode() in ran.fault))
 
 
+def show_unread(world):
+    """Folders of somebody else beside those of the tenants, and one of a tenant that is open to others: requests are served."""
+    checks = world.checks
+    world.init("alice", "r")
+    line(world, world.repository("source"), "one")
+    os.mkdir(world.caches, 0o700)
+    for folder in ("lost+found", "bob"):
+        os.mkdir(os.path.join(world.caches, folder), 0o755)
+        with open(os.path.join(world.caches, folder, "a.use"), "xb"):
+            pass
+    world.set(1000)
+    world.logged()
+    world.succeeds("a push beside what is not the front end's", world.git("source", "push", "-q", world.url("r"), "main"))
+    why = f"the folder '{world.caches}/bob' is open to others"
+    checks.same("the log tells why there is no room", [["alice", "cache", "r", "no-room", *why.split()]], of_caches(world))
+    world.host.ends_well(checks, "after what cannot be read")
+
+
+def of_caches(world):
+    return [row for row in world.logged() if row[1] == "cache"]
+
+
 def show_bound(world):
     """What was used least recently goes where all caches have more bytes than they may; what is in use stays."""
     checks = world.checks

@@ -11,35 +11,50 @@ from .settings import Settings
 
 PIECE = 1 << 16
 STANDARD_INPUT, STANDARD_OUTPUT = 0, 1
+# How the report of a push begins (gitprotocol-pack(5)).
+REPORT = b"unpack "
 # Git's own bound of one piece of memory while it reads a push: a delta of a few bytes can stand for any length.
 MOST_MEMORY = {"GIT_ALLOC_LIMIT": "256m"}
 
 
-class Served:
-    def __init__(self, status: int, count: int, is_alone: bool, words: str):
-        """How the program ended, bytes that went to the client, and whether that was gone before the end.
+class Carried:
+    """What a program has said, on its way to the client."""
 
-        `words` are what the hook told of the host's replies, if it was asked."""
-        self.status, self.bytes, self.is_alone, self.words = status, count, is_alone, words
+    def __init__(self, is_push: bool):
+        """Bytes that went to the client, whether that was gone before the end, and whether a push was reported."""
+        self.bytes, self.is_alone, self.is_reported = 0, False, False
+        self.is_push, self.last = is_push, b""
+
+    def look(self, piece: bytes) -> None:
+        """No name of a reference has a space, so none of those that are listed looks like a report."""
+        self.is_reported = self.is_reported or REPORT in self.last + piece
+        self.last = piece[1 - len(REPORT) :]
+
+    def hand_on(self, source: int) -> None:
+        while piece := os.read(source, PIECE):
+            if self.is_push:
+                self.look(piece)
+            try:
+                while piece:
+                    written = os.write(STANDARD_OUTPUT, piece)
+                    self.bytes, piece = self.bytes + written, piece[written:]
+            except OSError:
+                self.is_alone = True
+                return
+
+
+class Served:
+    def __init__(self, status: int, carried: Carried, words: str):
+        """How the program ended. `words` are what the hook told of the host's replies, if it was asked."""
+        self.status, self.carried, self.words = status, carried, words
+        self.bytes = carried.bytes
 
     def word(self) -> str:
-        """How it ended, for the log."""
-        if self.is_alone:
+        """How it ended, for the log. What is reported of a push for which the host was not asked is that it is refused."""
+        if self.carried.is_alone:
             return "client-gone"
-        return self.words or ("ok" if self.status == 0 else "failed")
-
-
-def carry(source: int) -> tuple:
-    """Hands on what the program says; how many bytes, and whether the client went before the end."""
-    count = 0
-    while piece := os.read(source, PIECE):
-        try:
-            while piece:
-                written = os.write(STANDARD_OUTPUT, piece)
-                count, piece = count + written, piece[written:]
-        except OSError:
-            return count, True
-    return count, False
+        ended = "refused" if self.carried.is_reported else "ok"
+        return self.words or (ended if self.status == 0 else "failed")
 
 
 class Service:
@@ -85,12 +100,13 @@ class Service:
         files = (told, self.cache.lock.file, self.cache.use.file)
         child = Child(words, self.outer(more, told), STANDARD_INPUT, files=files)
         os.close(told)
-        count, is_alone = carry(child.output.fileno())
+        carried = Carried(self.is_push)
+        carried.hand_on(child.output.fileno())
         child.output.close()
         status = child.wait()
-        if status and not is_alone:
+        if status and not carried.is_alone:
             self.cache.doubt()
-        return Served(status, count, is_alone, taken(report))
+        return Served(status, carried, taken(report))
 
 
 def taken(report: int) -> str:

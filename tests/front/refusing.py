@@ -75,6 +75,8 @@ def show_fsck(world, first):
         text = "[remote rejected] (unpacker error)"
         ran = refused(world, label, {"refs/heads/wrong": text}, f"{tip}:refs/heads/wrong")
         world.checks.same(f"{label}: why", True, word in ran.fault)
+        rows = [row[3] for row in world.logged() if row[1] == "git-receive-pack"]
+        world.checks.same(f"{label}: the log's last word", "refused", rows[-1])
         url = world.host.url("carol", "r")
         ran = world.git("source", "push", "-q", url, f"+{tip}:refs/heads/wrong")
         world.succeeds(f"{label}: the host takes it", ran)

@@ -1,4 +1,6 @@
 """What whoever runs a front end has set: lines `NAME VALUE` of a file."""
+import os
+
 from forkhost_client.faults import Fatal, Refused
 from forkhost_client.route import Route
 from forkhost_client.rows import rows
@@ -9,6 +11,8 @@ PLACES = ("socket", "route")
 # Bytes of all caches together, where nothing is set.
 BYTES = "10000000000"
 OPTIONAL = {"socket": "", "route": "", "log": "", "users": "", "bytes": BYTES}
+# Git runs the hook of a push in the cache, so none of these is looked for from where the front end began.
+PATHS = ("socket", "route", "caches", "log", "users")
 
 
 class Settings:
@@ -39,7 +43,9 @@ def read_settings(path: str) -> Settings:
     for name in found:
         if name not in ("caches", *OPTIONAL):
             raise Fatal(f"'{path}' sets {name}, which is unknown")
+        if name in PATHS and not found[name].startswith("/"):
+            raise Fatal(f"'{path}' sets {name} to a path that does not begin with '/'")
     values = {**OPTIONAL, **found}
     if not values["bytes"].isdecimal():
         raise Fatal(f"'{path}' sets bytes to a value that is not a number")
-    return Settings(path, values)
+    return Settings(os.path.abspath(path), values)

@@ -46,6 +46,7 @@ def show_words(world):
     checks.same("and leaves no file", [False] * 3, [os.path.exists(world.cache("s") + end) for end in ENDS])
     show_log(world)
     show_left(world)
+    show_relative(world)
     show_no_commands(world)
     world.host.ends_well(checks, "after words")
 
@@ -83,6 +84,19 @@ def show_left(world):
 
 
 ENDS = ("", ".lock", ".use")
+
+
+def show_relative(world):
+    """The settings' file is named from where the front end begins, which is not where Git runs the hook of a push."""
+    tip = world.name("source", "main")
+    words = f"{world.shell()} --settings front alice"
+    server = world.path("by_name")
+    world.write("by_name", f'#!/bin/sh\nexport SSH_ORIGINAL_COMMAND="$2"\ncd {world.folder} && exec {words}\n')
+    os.chmod(server, 0o700)
+    more = {"GIT_SSH_COMMAND": server, "GIT_SSH_VARIANT": "simple"}
+    ran = world.git("source", "push", "-q", world.url("r"), "main:refs/heads/relative", more=more)
+    world.succeeds("a push by settings of a relative name", ran)
+    world.checks.same("is there", True, f"{tip} refs/heads/relative" in world.kept("r"))
 
 
 def show_log(world):
@@ -161,6 +175,8 @@ def show_no_commands(world):
     show_no_log(world)
     wrong = {"socket /x\n": "does not set caches", "socket /x\nsocket /y\n": "line 2 of", "what\n": "line 1 of"}
     wrong |= {"socket /x\ncaches /y\nbytes few\n": "not a number", "socket /x\ncaches /y\nelse z\n": "sets else"}
+    wrong |= {"socket /x\ncaches y\n": "sets caches to a path", "socket x\ncaches /y\n": "sets socket to a path"}
+    wrong |= {"route x\ncaches /y\n": "sets route to a path", "socket /x\ncaches /y\nlog z\n": "sets log to a path"}
     for text, said in wrong.items():
         world.write("wrong", text)
         ran = world.ran(world.shell(), "--settings", world.path("wrong"), "alice")

@@ -40,6 +40,12 @@ class Log:
         self.line(tenant, "fault", repository, str(fault))
         return fault.shown
 
+    def failed(self, fault: OSError, tenant: str, repository: str) -> str:
+        """The same of a call of the system that failed: the log alone has its path."""
+        reason = fault.strerror or str(fault)
+        self.line(tenant, "fault", repository, str(fault))
+        return f"the front end failed: {reason}"
+
     def write(self, line: bytes) -> None:
         file = os.open(self.path, os.O_WRONLY | os.O_APPEND | os.O_CREAT, 0o600)
         try:

@@ -5,7 +5,7 @@ it, and the process that began receive-pack lets go of the lock."""
 import os
 import sys
 
-from forkhost_client.faults import Fatal, GitFailed, Internal, Refused
+from forkhost_client.faults import Fatal, GitFailed, Refused
 from forkhost_client.frames import bytes_of, text_of
 from forkhost_client.listing import read_listing
 from forkhost_client.options import Options
@@ -16,8 +16,9 @@ from forkhost_client.updates import ABSENT, Update
 from .cache import Cache
 from .hooked import LOCK, PLACE, REPORT, REPOSITORY, TENANT
 from .lock import Lock
+from .log import Log
 from .packets import read_lines, write_lines
-from .settings import read_settings
+from .settings import Settings, read_settings
 
 
 def read_updates(source) -> list:
@@ -65,8 +66,7 @@ def report(updates: list) -> None:
     os.write(int(os.environ[REPORT]), ",".join(words).encode())
 
 
-def receive(source, sink) -> None:
-    settings = read_settings(os.environ[PLACE])
+def receive(settings: Settings, source, sink) -> None:
     cache = Cache(settings, os.environ[TENANT], os.environ[REPOSITORY], int(os.environ[LOCK]))
     features = read_lines(source)[0].partition(b"\0")[2].split(b" ")
     write_lines(sink, [b"version=1"])
@@ -81,12 +81,16 @@ def receive(source, sink) -> None:
 
 def main() -> int:
     try:
-        receive(sys.stdin.buffer, sys.stdout.buffer)
-        return 0
-    except Internal as fault:
-        say(fault.shown)
+        settings = read_settings(os.environ[PLACE])
     except Fatal as fault:
         say(str(fault))
+        return 1
+    log, whose = Log(settings.log), (os.environ[TENANT], os.environ[REPOSITORY])
+    try:
+        receive(settings, sys.stdin.buffer, sys.stdout.buffer)
+        return 0
+    except Fatal as fault:
+        say(log.shown(fault, *whose))
     except OSError as fault:
-        say(f"the front end failed: {fault.strerror or fault}")
+        say(log.failed(fault, *whose))
     return 1

@@ -76,7 +76,7 @@ def main(words: list) -> int:
     except Fatal as fault:
         say(entry.log.shown(fault, tenant, entry.repository))
     except OSError as fault:
-        say(f"the front end failed: {fault.strerror or fault}")
+        say(entry.log.failed(fault, tenant, entry.repository))
     finally:
         entry.write()
     return FATAL

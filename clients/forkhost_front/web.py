@@ -102,8 +102,8 @@ def judged(settings: Settings, entry: Entry) -> "Answered | None":
     except (Fatal, OSError) as fault:
         # The web server's log has it, and where it names places of this machine that of the front end too.
         say(str(fault))
-        if isinstance(fault, Fatal):
-            entry.log.shown(fault, entry.tenant, entry.repository)
+        shown = entry.log.shown if isinstance(fault, Fatal) else entry.log.failed
+        shown(fault, entry.tenant, entry.repository)
         return Answered(FAILED, "the host cannot be asked now")
     except ClientGone:
         entry.reply = "client-gone"

@@ -47,6 +47,7 @@ def show_words(world):
     show_log(world)
     show_left(world)
     show_relative(world)
+    show_unwritable(world)
     show_no_commands(world)
     world.host.ends_well(checks, "after words")
 
@@ -84,6 +85,20 @@ def show_left(world):
 
 
 ENDS = ("", ".lock", ".use")
+
+
+def show_unwritable(world):
+    """Something else is at the place of a lock: the user is told what failed, and the log where."""
+    place = world.cache("new") + ".lock"
+    os.mkdir(place)
+    world.ask("alice", "init", "new")
+    world.logged()
+    ran = world.git(None, "ls-remote", world.url("new"))
+    said = b"forkhost: the front end failed: Is a directory\n"
+    world.checks.same("a lock that is a folder: is told", (128, True), (ran.status, ran.fault.startswith(said)))
+    told = [" ".join(row[1:]) for row in world.logged() if row[1] == "fault"]
+    world.checks.same("a lock that is a folder: the log", [f"fault new [Errno 21] Is a directory: '{place}'"], told)
+    os.rmdir(place)
 
 
 def show_relative(world):

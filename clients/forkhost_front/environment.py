@@ -13,6 +13,8 @@ SETTINGS = {
     "core.hooksPath": os.path.join(HERE, "hooks"),
     # Whatever the cache has is the tenant's.
     "uploadpack.allowFilter": "true",
+    # Its patterns come from a user, and a short one can keep a processor busy for good.
+    "uploadpackfilter.sparse:oid.allow": "false",
     "uploadpack.allowAnySHA1InWant": "true",
     "http.getanyfile": "false",
     # The host takes no object of this length, so such a one is never held in memory.

@@ -109,6 +109,8 @@ def show_parts(world):
     missing = world.output("part", "rev-list", "--objects", "--all", "--missing=print").splitlines()
     checks.same("it lacks the blobs", 6, sum(row.startswith("?") for row in missing))
     world.sound("a clone without blobs", "part")
+    ran = world.git(None, "clone", "-q", f"--filter=sparse:oid={tip}", world.url("r"), "sparse")
+    checks.same("no patterns of a user", (128, True), (ran.status, b"filter 'sparse:oid' not supported" in ran.fault))
     checks.same("one comes as it is wanted", 200_000, len(world.output("part", "show", "HEAD~1:great")))
     world.succeeds("the others come with a checkout", world.git("part", "checkout", "-q", "main"))
     checks.same("its work tree", "", world.output("part", "status", "--porcelain"))

@@ -8,10 +8,11 @@ READ, WRITE, ARCHIVE = "git-upload-pack", "git-receive-pack", "git-upload-archiv
 PROGRAMS = {READ: "upload-pack", WRITE: "receive-pack"}
 # The new repository is its last word.
 FORKS_OFFER = "fork-offer"
-# Requests that are asked by hand, and the words that they take; with `..` also more of the last.
+# Requests that are asked by hand, and the words that they take; with `..` also more of the last, and without what is in brackets.
+MORE = ".."
 BY_HAND = {"init": "REPO", "drop": "REPO", "fork": "SRC DST", "head": "REPO", "set-head": "REPO REF"}
 BY_HAND |= {"offer": "REPO TENANT", "withdraw": "REPO TENANT", "offers": "", FORKS_OFFER: "GIVER REPO DST"}
-BY_HAND |= {"repos": "", "quota": "", "prune": "", "for-each-ref": "REPO ..", "cat-file": "NAME", "ls-tree": "NAME"}
+BY_HAND |= {"repos": "", "quota": "", "prune": "", "for-each-ref": "REPO [PREFIX]", "cat-file": "NAME", "ls-tree": "NAME"}
 BY_HAND |= {"rev-list": "REPO ITEM ..", "merge-base": "REPO ITEM ITEM"}
 # The last word is the repository that they make.
 MAKING = ("init", "fork", FORKS_OFFER)
@@ -79,11 +80,17 @@ def judge_repository(asked: Asked) -> None:
         raise Fatal(f"'{shown}' is not a repository name, which has letters a to z, digits, '-' and '_'")
 
 
+def fits(count: int, words: list) -> bool:
+    """Whether so many words can be these: of one in brackets there is one at the most."""
+    least = len([word for word in words if word != MORE and not word.startswith("[")])
+    return count >= least if MORE in words else least <= count <= len(words)
+
+
 def judge_by_hand(asked: Asked) -> None:
     if asked.word not in BY_HAND:
         raise Fatal(f"'{asked.word}' is not a command here; {USAGE}")
     words = BY_HAND[asked.word]
-    if not words.endswith("..") and len(asked.rest) != len(words.split()):
+    if not fits(len(asked.rest), words.split()):
         raise Fatal(f"'{asked.word}' takes {words or 'no words'}")
     if asked.word in OF_OBJECTS and not is_name(asked.rest[0]):
         raise Fatal(f"'{asked.word}' takes a name of {NAME} digits")

@@ -10,6 +10,8 @@ PATIENCE = 5
 # A refusal's detail is at most a word of a payload.
 LONGEST_REFUSAL = MAX_PAYLOAD + 64
 PIECE = 1 << 16
+# A reply may say that it has any length: what is longer is read by pieces, so that no more memory is taken than comes.
+AT_ONCE = 1 << 24
 
 
 class Data:
@@ -100,9 +102,16 @@ class Connection:
         return text_of(self.ask(line).rest())
 
 
+def pieces(reader, left: int):
+    """This many bytes, or as many as come."""
+    while left and (piece := reader.read(min(left, AT_ONCE))):
+        left -= len(piece)
+        yield piece
+
+
 def exactly(reader, count: int) -> bytes:
     try:
-        data = reader.read(count)
+        data = reader.read(count) if count <= AT_ONCE else b"".join(pieces(reader, count))
     except OSError as fault:
         raise Lost(f"the host ended the connection: {fault.strerror or fault}") from fault
     if len(data) != count:

@@ -96,6 +96,10 @@ def show_cuts(checks, program, folder):
                 checks.same(f"{word}: {label}: the host is as before", f"{first} refs/heads/main", world.kept("r")[0])
         if word in ("for-each-ref", "fetch"):
             world.sound(f"after {word}", "other")
+    at["word"], at["way"] = "for-each-ref", lambda reply: b"99999999999999999999\nok\n"
+    ran = world.git("source", "ls-remote", url)
+    told = (ran.status, (LOST + " within a reply").encode() in ran.fault, b"Traceback" in ran.fault)
+    checks.same("a length beyond all memory", (128, True, False), told)
     show_forms(world, at, tries)
     show_hand_cuts(world, watcher, at)
     world.host.ends_well(checks, "after cuts")

@@ -21,6 +21,10 @@ from .packets import read_lines, write_lines
 from .settings import Settings, read_settings
 
 
+# A reason may name a path of any length, and a packet has at most 65,516 bytes of its own.
+LONGEST_REASON = 1000
+
+
 def read_updates(source) -> list:
     """Each is forced, as Git has judged it at the client's side: the host has to be as the client saw it."""
     rows = [text_of(row).split(" ", 2) for row in read_lines(source)]
@@ -57,7 +61,7 @@ def settle(cache: Cache, updates: list) -> None:
 
 def rows(updates: list):
     for update in updates:
-        yield bytes_of(f"ng {update.ref} {update.refusal}" if update.refusal else f"ok {update.ref}")
+        yield bytes_of(f"ng {update.ref} {update.refusal[:LONGEST_REASON]}" if update.refusal else f"ok {update.ref}")
 
 
 def report(updates: list) -> None:

@@ -46,6 +46,7 @@ def read_settings(path: str) -> Settings:
         if name in PATHS and not found[name].startswith("/"):
             raise Fatal(f"'{path}' sets {name} to a path that does not begin with '/'")
     values = {**OPTIONAL, **found}
-    if not values["bytes"].isdecimal():
-        raise Fatal(f"'{path}' sets bytes to a value that is not a number")
+    # Git takes 0 for no bound.
+    if not values["bytes"].isdecimal() or not int(values["bytes"]):
+        raise Fatal(f"'{path}' sets bytes to a value that is not a number above 0")
     return Settings(os.path.abspath(path), values)

@@ -42,11 +42,22 @@ def show_refusals(world):
     large = commit_of(world, "source", tree_of(world, "source", ("100644", "large", blob)), first)
     text = "[remote rejected] ('large' has 9437184 bytes, and the host accepts at most 8388608)"
     refused(world, "an object of 9 MiB", {"refs/heads/large": text}, f"{large}:refs/heads/large")
+    show_deep(world, first, blob)
     show_quota(world, first)
     show_fsck(world, first)
     show_mixed(world, first, second)
     world.cloned("a clone at last", "r")
     world.host.ends_well(checks, "after refusals")
+
+
+def show_deep(world, first, blob):
+    """A reason is cut where it names a path that is longer than a packet of Git's."""
+    folder, tree = "d" * 4000, tree_of(world, "source", ("100644", "large", blob))
+    for _ in range(18):
+        tree = tree_of(world, "source", ("40000", folder, tree))
+    deep = commit_of(world, "source", tree, first)
+    reason = f"'{'/'.join([folder] * 18)}/large' has"[:1000]
+    refused(world, "an object of 9 MiB, deep", {"refs/heads/deep": f"[remote rejected] ({reason})"}, f"{deep}:refs/heads/deep")
 
 
 def show_quota(world, first):

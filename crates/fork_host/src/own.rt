@@ -202,7 +202,7 @@ impl<'a, S: LooseFiles> Own<'a, S> {
         self.vault.get_staged(alloc, self.tenant, name)
     }
 
-    // Stages objects, in order. On an `Err` none is staged. Returns those that have links, unless the store keeps them.
+    // Stages objects, in order. On an `Err` none is staged. Returns those that the store gave back.
     pub(crate) fn stage_all(
         &mut self,
         alloc: Global,

@@ -21,8 +21,8 @@ use git_name::Sealed;
 use loose_store::LooseFiles;
 use std::alloc::Global;
 
-// Stages these objects in turn, beside what is staged. On failure none of them is staged. Returns those that have links,
-// unless the store keeps them.
+// Stages these objects in turn, beside what is staged. On failure none of them is staged. Returns those that the store
+// gave back.
 pub(crate) fn stage_all<S: LooseFiles>(
     alloc: Global,
     own: &mut Own<'_, S>,

@@ -15,7 +15,7 @@ ghost use Rattle.fork_ledger.specs.Store.{CountsFault, Meets, StoresAlone};
 
 use crate::arrival::arrive;
 use crate::fault::VaultFault;
-use git_name::{Kind, Sealed};
+use git_name::Sealed;
 use loose_store::LooseFiles;
 use object_table::{Entry, Holdings};
 use read_cache::CachedStore;
@@ -73,20 +73,17 @@ pub(crate) fn entries_of(alloc: Global, objects: &[Sealed]) -> Result<Vec<Entry>
     Ok(entries)
 }
 
-// Keeps an object that the store gave back, if it has links and there is memory for it.
+// Keeps an object that the store gave back, if there is memory for it.
 fn keep(back: Option<Sealed>, kept: &mut Vec<Sealed>)
     ensures { (object : Object) → Contains kept.new.items object → Contains kept.old.items object ⊎ (back ≡ Some object) }
 {
     let Some(sealed) = back else {
         return;
     };
-    if matches!(sealed.kind(), Kind::Blob) {
-        return;
-    }
     let _kept = kept.push(sealed);
 }
 
-// Receives objects, in order. Returns those that have links, unless the store keeps them. After an `Err` the objects
+// Receives objects, in order. Returns those that the store gave back. After an `Err` the objects
 // before the fault stay received.
 pub(crate) fn receive_all<S: LooseFiles>(
     alloc: Global,

@@ -103,8 +103,8 @@ fn stage_fit<S: LooseFiles>(
     }
 }
 
-// Does the same for several objects, in order. On an `Err` none is staged. Returns those that have links, unless the
-// store keeps them.
+// Does the same for several objects, in order. On an `Err` none is staged. Returns those that the
+// store gave back.
 pub(crate) fn stage_all_whole<S: LooseFiles>(
     alloc: Global,
     files: &mut CachedStore<S>,

@@ -16,6 +16,7 @@ enters_none bound ends seen waits = record {
   only = λ n is. inl is;
   new = λ n is. inl is;
   noted = λ n is. inl is;
+  go_on = λ n is. inl is;
   less = omega arith;
 }
 
@@ -28,13 +29,14 @@ enters_known bound ends first seen waits known = record {
   only = λ n is. inl is;
   new = λ n is. inl is;
   noted = λ n is. inl is;
+  go_on = λ n is. inl is;
   less = omega arith;
 }
 
--- what is seen to, with every number allowed, is entered
-pub entered : (bound : ℕ) (ends : ℕ → Bool) (numbers : List ℕ) (seen : ℕ → Bool) (waits : List ℕ) (now_seen : ℕ → Bool) (now_waits : List ℕ)
-    → Sees bound (λ _. true) numbers seen waits now_seen now_waits → Enters bound ends numbers seen waits now_seen now_waits
-entered bound ends numbers seen waits now_seen now_waits sees = record {
+-- what is seen to, with every number allowed, is entered, if no end is put on the list
+entered : (bound : ℕ) (ends : ℕ → Bool) (numbers : List ℕ) (seen : ℕ → Bool) (waits : List ℕ) (now_seen : ℕ → Bool) (now_waits : List ℕ)
+    → ((n : ℕ) → Contains now_waits n → Contains waits n ⊎ (ends n ≡ false)) → Sees bound (λ _. true) numbers seen waits now_seen now_waits → Enters bound ends numbers seen waits now_seen now_waits
+entered bound ends numbers seen waits now_seen now_waits go_on sees = record {
   kept = sees.kept;
   stays = sees.stays;
   all = λ n among. sees.all n among refl;
@@ -47,14 +49,20 @@ entered bound ends numbers seen waits now_seen now_waits sees = record {
     | inr waiting ↦ inr (inl waiting)
   ];
   noted = sees.noted;
+  go_on = go_on;
   less = sees.less;
 }
 
 -- a number that is new, and waits
-pub enters_new : (bound : ℕ) (ends : ℕ → Bool) (first : ℕ) (seen : ℕ → Bool) (waits : List ℕ) (now_seen : ℕ → Bool) (now_waits : List ℕ) → first < bound → seen first ≡ false
+pub enters_new : (bound : ℕ) (ends : ℕ → Bool) (first : ℕ) (seen : ℕ → Bool) (waits : List ℕ) (now_seen : ℕ → Bool) (now_waits : List ℕ) → first < bound → seen first ≡ false → ends first ≡ false
     → ((n : ℕ) → now_seen n ≡ nat_eq n first || seen n) → now_waits ≡ waits ++ first ∷ [] → Enters bound ends (first ∷ []) seen waits now_seen now_waits
-enters_new bound ends first seen waits now_seen now_waits inside new inserts pushed =
-    entered bound ends (first ∷ []) seen waits now_seen now_waits (sees_new bound (λ _. true) first seen waits now_seen now_waits inside refl new inserts pushed)
+enters_new bound ends first seen waits now_seen now_waits inside new no_end inserts pushed =
+    entered bound ends (first ∷ []) seen waits now_seen now_waits
+    (λ n is. elim (Contains-append_cases waits (first ∷ []) n (subst (λ w. Contains w n) pushed is)) [
+      | inl before ↦ inl before
+      | inr last ↦ inr (subst (λ m. ends m ≡ false) (sole_there first n last) no_end)
+    ])
+    (sees_new bound (λ _. true) first seen waits now_seen now_waits inside refl new inserts pushed)
 
 -- a number that is new, and an end
 pub enters_end : (bound : ℕ) (ends : ℕ → Bool) (first : ℕ) (seen : ℕ → Bool) (waits : List ℕ) (now_seen : ℕ → Bool) → ends first ≡ true
@@ -72,6 +80,7 @@ enters_end bound ends first seen waits now_seen is_end inserts = record {
     | inr before ↦ inl before
   ];
   noted = λ n is. inl is;
+  go_on = λ n is. inl is;
   less = (let fewer = unseen_no_more bound (λ _. true) seen now_seen kept in omega (arith, fewer));
 }
   where
@@ -109,6 +118,10 @@ enters_both bound ends xs ys seen waits mid_seen mid_waits now_seen now_waits fi
       | inr seen_now ↦ inr (then.kept n seen_now)
     ]
     | inr seen_now ↦ inr seen_now
+  ];
+  go_on = λ n is. elim (then.go_on n is) [
+    | inl before ↦ first.go_on n before
+    | inr no_end ↦ inr no_end
   ];
   less = (let a = first.less in let b = then.less in omega arith);
 }

@@ -5,12 +5,15 @@ use Rattle.std.specs.Option.{unwrap_or}
 use Rattle.number_links.specs.Known.{Known, LeadNowhere, known, linked}
 use Rattle.number_links.proofs.SeeingLemmas.{either_seen, none_there}
 
+-- what is known of them stays
 pub nowhere_stays : (links now : Known) (among : ℕ → Bool) → ((q : ℕ) → is_some (known links q) ≡ true → known now q ≡ known links q) → LeadNowhere links among → LeadNowhere now among
 nowhere_stays links now among stays lead q is = stays q (ap is_some (lead q is)) ∙ lead q is
 
+-- each is known
 pub nowhere_clear : (links now : Known) (among : ℕ → Bool) → ((q : ℕ) → is_some (known links q) ≡ true → known now q ≡ known links q) → LeadNowhere links among → (q : ℕ) → among q ≡ true → is_some (known now q) ≡ true
 nowhere_clear links now among stays lead q is = ap is_some (nowhere_stays links now among stays lead q is)
 
+-- none leads anywhere
 pub nowhere_linked : (links : Known) (among : ℕ → Bool) → LeadNowhere links among → (q : ℕ) → among q ≡ true → linked links q ≡ []
 nowhere_linked links among lead q is = ap (λ o. unwrap_or o []) (lead q is)
 

@@ -1,5 +1,5 @@
 -- Numbers that are seen, and those of them that wait to be followed (own).
-use Rattle.std.specs.Prelude.{◌≡◌, ◌⊎◌, ℕ, zero, suc, ◌+◌, ◌≤◌, ◌&&◌, Bool, true, not, List, length, Contains, cond}
+use Rattle.std.specs.Prelude.{◌≡◌, ◌⊎◌, ℕ, zero, suc, ◌+◌, ◌≤◌, ◌&&◌, Bool, true, false, not, List, length, Contains, cond}
 
 -- how many numbers below a bound pass a test
 unfoldable pub count_below : ℕ → (ℕ → Bool) → ℕ
@@ -28,4 +28,5 @@ pub record Enters (bound : ℕ) (ends : ℕ → Bool) (numbers : List ℕ) (seen
   pub only : (n : ℕ) → now_seen n ≡ true → (seen n ≡ true) ⊎ Contains numbers n
   pub new : (n : ℕ) → now_seen n ≡ true → (seen n ≡ true) ⊎ Contains now_waits n ⊎ (ends n ≡ true)
   pub noted : (n : ℕ) → Contains now_waits n → Contains waits n ⊎ (now_seen n ≡ true)
+  pub go_on : (n : ℕ) → Contains now_waits n → Contains waits n ⊎ (ends n ≡ false)
   pub less : unseen bound (λ _. true) now_seen + length now_waits ≤ unseen bound (λ _. true) seen + length waits

@@ -12,16 +12,18 @@ use crate::resting::Resting;
 use crate::taking::take;
 use std::alloc::{AllocError, Global};
 
-// Adds a new number to `seen`. It waits, unless it is an end.
+// Counts a new number, and adds it to `seen`. It waits, unless it is an end.
 fn enter(
     ends: &NumberSet,
     n: u32,
     seen: &mut NumberSet,
     waiting: &mut Vec<u32>,
+    count: &mut usize,
 ) -> Result<(), AllocError>
     requires { has seen.old n ≡ false }
     ensures { OnOk result (Enters 4294967296 (has ends.now) (n ∷ []) (has seen.old) waiting.old.items (has seen.new) waiting.new.items) }
 {
+    *count = count.saturating_add(1);
     seen.add(n)?;
     if ends.contains(n) {
         return Ok(());
@@ -30,12 +32,13 @@ fn enter(
     Ok(())
 }
 
-// Does the same for each of these numbers that is new. Most numbers of a walk are not, so each is looked for here.
+// Does the same for each of these numbers that is new. Most are not, so they are looked for here.
 fn enter_all(
     ends: &NumberSet,
     numbers: &[u32],
     seen: &mut NumberSet,
     waiting: &mut Vec<u32>,
+    count: &mut usize,
 ) -> Result<(), AllocError>
     ensures { OnOk result (Enters 4294967296 (has ends.now) numbers.now (has seen.old) waiting.old.items (has seen.new) waiting.new.items) }
 {
@@ -43,13 +46,13 @@ fn enter_all(
         if seen.contains(*n) {
             continue;
         }
-        enter(ends, *n, seen, waiting)?;
+        enter(ends, *n, seen, waiting, count)?;
     }
     Ok(())
 }
 
 // Learns that a number of which nothing is known has no links. Returns `false` if it does not rest or is not allowed.
-fn settle<R: Resting>(
+fn learn_rest<R: Resting>(
     links: &mut Links,
     allowed: &NumberSet,
     resting: &R,
@@ -80,6 +83,7 @@ fn follow<R: Resting>(
     n: u32,
     seen: &mut NumberSet,
     waiting: &mut Vec<u32>,
+    count: &mut usize,
 ) -> Result<bool, AllocError>
     ensures stays { (q : ℕ) → is_some (known links.old q) ≡ true → known links.new q ≡ known links.old q }
     ensures only { (q : ℕ) (ms : List ℕ) → known links.new q ≡ Some ms → (known links.old q ≡ Some ms) ⊎ ((ms ≡ []) × (has allowed.now q ≡ true) × (R.rests resting.now q ≡ true)) }
@@ -87,15 +91,15 @@ fn follow<R: Resting>(
     ensures enters { IfOk result (λ all. all ≡ true → Enters 4294967296 (has ends.now) (linked links.old n) (has seen.old) waiting.old.items (has seen.new) waiting.new.items) }
 {
     let Some(to) = links.of(n) else {
-        return settle(links, allowed, resting, n);
+        return learn_rest(links, allowed, resting, n);
     };
-    enter_all(ends, to, seen, waiting)?;
+    enter_all(ends, to, seen, waiting, count)?;
     Ok(true)
 }
 
 // All numbers reachable from the root, each of which then has known links. `ends` are numbers that are known to have
 // none. Returns `None` if the root is not allowed, or if a number has no known links and does not rest or is not allowed.
-// A kept set is taken as a whole. Each other number that is no end is counted.
+// A kept set is taken as a whole. Each other number is counted.
 pub(crate) fn gather<R: Resting>(
     alloc: Global,
     links: &mut Links,
@@ -111,20 +115,29 @@ pub(crate) fn gather<R: Resting>(
     ensures stays { (q : ℕ) → is_some (known links.old q) ≡ true → known links.new q ≡ known links.old q }
     ensures only { (q : ℕ) (ms : List ℕ) → known links.new q ≡ Some ms → (known links.old q ≡ Some ms) ⊎ ((ms ≡ []) × (has allowed.now q ≡ true) × (R.rests resting.now q ≡ true)) }
     ensures found { IfOk result (λ r. IfSome r (λ found. IsAllLedTo links.new (root ∷ []) (has found))) }
+    ensures own { IfOk result (λ r. IfSome r (λ found. has allowed.now root ≡ true)) }
 {
     if !allowed.contains(root) {
         return Ok(None);
     }
     let mut seen = NumberSet::new(alloc);
     let mut waiting = Vec::new(alloc);
-    enter(ends, root, &mut seen, &mut waiting)?;
+    enter(ends, root, &mut seen, &mut waiting, count)?;
     'waiting: while let Some(n) = waiting.pop() {
         if let Some(set) = find(kept, allowed, n) {
             take(&mut seen, set)?;
             continue;
         }
-        *count = count.saturating_add(1);
-        if !follow(links, ends, allowed, resting, n, &mut seen, &mut waiting)? {
+        if !follow(
+            links,
+            ends,
+            allowed,
+            resting,
+            n,
+            &mut seen,
+            &mut waiting,
+            count,
+        )? {
             return Ok(None);
         }
     }

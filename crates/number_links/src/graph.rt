@@ -31,7 +31,7 @@ use std::marker::Model;
 #[derive(Drop)]
 pub struct Graph {
     links: Links,
-    // Numbers that are known to have no links.
+    // Some of the numbers that are known to have no links.
     ends: NumberSet,
     times: Times,
     kept: Vec<Kept>,
@@ -252,6 +252,7 @@ fn note_end(links: &mut Links, ends: &mut NumberSet, n: u32) -> Result<(), Alloc
     ensures ok { OnOk result (known links.new n ≡ Some []) }
     ensures stays { (q : ℕ) → is_some (known links.old q) ≡ true → known links.new q ≡ known links.old q }
     ensures ends { LeadNowhere links.old (has ends.old) → LeadNowhere links.new (has ends.new) }
+    ensures kept { (q : ℕ) → has ends.old q ≡ true → has ends.new q ≡ true }
 {
     links.learn(n, &[])?;
     let Ok(()) = ends.reserve(n) else {

@@ -49,6 +49,9 @@ fn keep_one<R: Resting>(
     if count < FEW {
         return;
     }
+    if !reached.is_within(allowed) {
+        return;
+    }
     put(kept, Kept { root, reached });
 }
 

@@ -87,6 +87,8 @@ impl NumberSet {
     pub fn add(&mut self, n: u32) -> Result<(), AllocError>
         ensures ok { OnOk result ((q : ℕ) → has self.new q ≡ (nat_eq q n || has self.old q)) }
         ensures err { OnErr result ((q : ℕ) → has self.new q ≡ has self.old q) }
+        ensures room { HasRoomOf self.old self.new }
+        ensures least { (other : Pages) → HasRoomOf self.old other → has_room other n ≡ true → HasRoomOf self.new other }
     {
         if self.has_page(n as usize / 4096) {
             self.insert(n);

@@ -9,4 +9,4 @@ returns-then-contains c =
 
 pub returns : goal.returns
 returns c =
-    enters_new 4294967296 (has c.args.ends.now) c.args.n (has c.args.seen.now) c.args.waiting.now.items (has c.add.new.self) c.push.new.self.items (omega arith) c.requires c.in_ok-add.ensures.ok c.in_ok-push.ensures.items
+    enters_new 4294967296 (has c.args.ends.now) c.args.n (has c.args.seen.now) c.args.waiting.now.items (has c.add.new.self) c.push.new.self.items (omega arith) c.requires (sym c.contains.ensures ∙ c.if-contains.false) c.in_ok-add.ensures.ok c.in_ok-push.ensures.items

@@ -14,6 +14,9 @@ returns-in_default-2-clause-kept g c = all_more c.args.links.now c.gather.new.li
 pub returns-then-count-lt-FEW-clause-kept : goal.returns-then-count-lt-FEW-clause-kept
 returns-then-count-lt-FEW-clause-kept g c = all_more c.args.links.now c.gather.new.links c.gather.ensures.stays c.args.kept.now.items c.requires.kept
 
+pub returns-then-not-is_within-clause-kept : goal.returns-then-not-is_within-clause-kept
+returns-then-not-is_within-clause-kept g c = all_more c.args.links.now c.gather.new.links c.gather.ensures.stays c.args.kept.now.items c.requires.kept
+
 pub returns-clause-kept : goal.returns-clause-kept
 returns-clause-kept g c =
     let found = c.in-Ok-Some in

@@ -163,6 +163,9 @@ def door(words: list) -> int:
         serve(*read_door(words), stream_of(sys.stdin, "input"), stream_of(sys.stdout, "output"))
         return DONE
     except Internal as fault:
+        from .system_log import tell_system
+
+        tell_system(str(fault))
         tell("forkhost-door", fault.shown)
     except Fatal as fault:
         tell("forkhost-door", str(fault))

@@ -3,16 +3,10 @@ import os
 import time
 
 from forkhost_client.faults import Fatal, Internal
+from forkhost_client.system_log import tell_system
 
 # What stands if there is nothing to tell.
 NOTHING = "-"
-
-
-def tell_system(text: str) -> None:
-    """To syslog(3), where that is. Standard error is the user's, whom the log does not concern."""
-    from syslog import LOG_DAEMON, LOG_WARNING, syslog
-
-    syslog(LOG_DAEMON | LOG_WARNING, text.encode("utf-8", "backslashreplace").decode())
 
 
 def now() -> str:

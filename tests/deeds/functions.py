@@ -47,13 +47,14 @@ def last_word(text):
 
 
 def owner_of(line):
-    """The name that a check gives to what an `impl` or a `trait` opens (`Type`, `TypeTrait`, `TypeTraitArgument`), and
-    whether it is a type alone."""
+    """The name that a check gives to what an `impl` or a `trait` opens (`Type`, `TypeTrait`, `TypeTraitArgument`; `VecU8Trait`
+    for a type of numbers), and whether it is a type alone."""
     kind, rest = OWNER.match(line).group(2, 3)
     bare = after_parameters(rest).partition(" where ")[0]
     trait, _, of = bare.rpartition(" for ")
     arguments = re.findall(r"(?<!')\b[A-Za-z_]\w*", trait.partition("<")[2])
-    return last_word(of) + last_word(trait) + "".join(arguments), kind == "impl" and not trait
+    numbers = re.findall(r"\b[ui](?:8|16|32|64|128|size)\b", of.partition("<")[2])
+    return last_word(of) + "".join(numbers).upper() + last_word(trait) + "".join(arguments), kind == "impl" and not trait
 
 
 def module_of(folder, path):

@@ -5,6 +5,11 @@ class Fatal(Exception):
     """The work cannot go on; the text says why, for a person."""
 
 
+def word_of(fault: Fatal) -> str:
+    """What a log says of it: a fault of the host by its word."""
+    return f"host-{fault.word}" if isinstance(fault, HostFault) else "failed"
+
+
 class Internal(Fatal):
     """A fault whose text names places of this machine. A user who is elsewhere is told `shown` in its place."""
 

@@ -12,7 +12,7 @@ CAPABILITIES = ["fetch", "push", "option", "object-format"]
 FORMAT = "sha256"
 AUTOCREATE = "forkhost.autocreate"
 EMPTY = (
-    "the repository is empty, so Git makes the clone in the SHA-1 format, which cannot push to it; "
+    "the repository is empty, so Git makes a clone of it in the SHA-1 format, which cannot push to it; "
     "clone by 'GIT_DEFAULT_HASH=sha256 git clone ..', or push from a repository made by 'git init --object-format=sha256'"
 )
 

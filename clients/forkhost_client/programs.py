@@ -6,7 +6,7 @@ from _signal import SIG_DFL, SIGINT, signal
 from .address import OPERATOR, is_tenant, is_who, read_address
 from .connection import Connection
 from .faults import Fatal, Internal, Refused
-from .frames import bytes_of
+from .frames import MAX_PAYLOAD, bytes_of
 from .progress import say
 
 DOOR_USAGE = "usage: forkhost-door SOCKET TENANT, or forkhost-door --route TABLE TENANT, by a front end, with frames on standard input"
@@ -105,7 +105,10 @@ def read_request(words: list) -> tuple:
 def asked(words: list, sink) -> None:
     """One request; the data of its reply goes to the sink."""
     path, tenant, line, has_body = read_request(words)
-    body = stream_of(sys.stdin, "input").read() if has_body else b""
+    body = stream_of(sys.stdin, "input").read(MAX_PAYLOAD) if has_body else b""
+    # A host hangs up within a frame that is too long, and what it says of that may be lost.
+    if len(bytes_of(" ".join(line))) + 1 + len(body) > MAX_PAYLOAD:
+        raise Fatal(f"the request has more than {MAX_PAYLOAD} bytes; a push can be sent in parts")
     with Connection(path, tenant, lambda: say("waiting: the host is serving another connection")) as connection:
         data = connection.ask(" ".join(line), body)
         while data.left:

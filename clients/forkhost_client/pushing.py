@@ -1,6 +1,6 @@
 """A push: updates in transactions, each with the objects that it wants."""
 from .address import Address
-from .faults import Fatal, Lost, Refused
+from .faults import Fatal, Lost, Refused, word_of
 from .listing import Listing
 from .options import Options
 from .plan import Plan, plan, too_large
@@ -27,9 +27,9 @@ class Push:
             for at in range(0, len(due), MAX_COMMANDS):
                 self.transact(due[at : at + MAX_COMMANDS])
         except Lost as fault:
-            refuse(due, f"{fault}; whether the push was done is unknown, so fetch and look")
+            refuse(due, f"{fault}; whether the push was done is unknown, so fetch and look", word_of(fault))
         except Fatal as fault:
-            refuse(due, str(fault))
+            refuse(due, str(fault), word_of(fault))
 
     def transact(self, updates: list) -> None:
         """One transaction; and another one without those that are refused, unless all or none are asked for."""
@@ -66,7 +66,7 @@ class Push:
             update.refuse(update.stale() if refusal.word == "stale" else text, refusal.word)
 
 
-def refuse(updates: list, text: str, word: str = "failed") -> None:
+def refuse(updates: list, text: str, word: str = "refused") -> None:
     """All that were not carried out, and have not been told why, were refused for this."""
     for update in updates:
         if update.is_due():

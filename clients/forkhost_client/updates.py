@@ -17,7 +17,7 @@ class Update:
         # Whether the host carried it out, or why it was not carried out, in words.
         self.is_done = False
         self.refusal = None
-        # The host's word for it, or `failed` where it has none.
+        # What a log says of it: the host's word; `refused` if the host was not asked; `failed` if the work could not go on.
         self.word = "ok"
 
     def is_due(self) -> bool:
@@ -33,7 +33,7 @@ class Update:
         """What Git is told where the reference is not as it was listed, in Git's own words."""
         return "stale info" if self.forced or self.new == ABSENT else "fetch first"
 
-    def refuse(self, text: str, word: str = "failed") -> None:
+    def refuse(self, text: str, word: str = "refused") -> None:
         self.refusal, self.word = text, word
 
     def row(self) -> str:

@@ -1,5 +1,5 @@
 """Sends objects and commands: in one frame, in one upload, or in several of which the last has the commands."""
-from .faults import Fatal, Refused
+from .faults import Fatal, Lost, Refused
 from .plan import KINDS, MAX_UPLOAD, TOGETHER, Plan, length_of
 from .progress import Progress, say
 from .remote import MAX_PART, Remote
@@ -23,6 +23,14 @@ def split(objects: list, room: int) -> list:
     return uploads
 
 
+def give_up(remote: Remote) -> None:
+    """After a fault the host would keep what came of the upload, and its room, until the tenant's next push."""
+    try:
+        remote.drop_upload()
+    except (Fatal, Refused):
+        pass
+
+
 def send_parts(remote: Remote, batch: Batch, commands: bytes, length: int, progress: Progress) -> None:
     head, left = commands + END, length
     while left:
@@ -39,8 +47,14 @@ def send(remote: Remote, batch: Batch, objects: list, commands: bytes, progress:
     if remote.fits(length):
         remote.push(commands + END + batch.read(length - len(commands + END)))
         progress.add(0, length)
-    else:
+        return
+    try:
         send_parts(remote, batch, commands, length, progress)
+    except Lost:
+        raise
+    except Fatal:
+        give_up(remote)
+        raise
 
 
 def send_all(repository: Repository, remote: Remote, plan: Plan, commands: bytes, shown: bool) -> None:

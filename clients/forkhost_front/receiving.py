@@ -5,7 +5,7 @@ it, and the process that began receive-pack lets go of the lock."""
 import os
 import sys
 
-from forkhost_client.faults import Fatal, GitFailed, Refused
+from forkhost_client.faults import Fatal, GitFailed, Refused, word_of
 from forkhost_client.frames import bytes_of, text_of
 from forkhost_client.listing import read_listing
 from forkhost_client.options import Options
@@ -43,7 +43,7 @@ def ask(cache: Cache, updates: list, options: Options) -> None:
 
         refuse(updates, told(refusal, cache.address), refusal.word)
     except Fatal as fault:
-        refuse(updates, cache.log.shown(fault, cache.address.tenant, cache.address.repository), "failed")
+        refuse(updates, cache.log.shown(fault, cache.address.tenant, cache.address.repository), word_of(fault))
 
 
 def settle(cache: Cache, updates: list) -> None:

@@ -13,6 +13,10 @@ PIECE = 1 << 16
 STANDARD_INPUT, STANDARD_OUTPUT = 0, 1
 # How the report of a push begins (gitprotocol-pack(5)).
 REPORT = b"unpack "
+# How http-backend begins where it turns a request away (RFC 3875, 6.3.3): it ends with status 0 then too.
+STATUS = b"Status: "
+# Where the head of what http-backend says ends.
+BLANK = b"\r\n\r\n"
 # Git's own bound of one piece of memory while it reads a push: a delta of a few bytes can stand for any length.
 MOST_MEMORY = {"GIT_ALLOC_LIMIT": "256m"}
 
@@ -21,8 +25,9 @@ class Carried:
     """What a program has said, on its way to the client."""
 
     def __init__(self, is_push: bool):
-        """Bytes that went to the client, whether that was gone before the end, and whether a push was reported."""
-        self.bytes, self.is_alone, self.is_reported = 0, False, False
+        """Bytes that went to the client, whether that was gone before the end, whether a push was reported, whether the
+        request was turned away, and whether nothing followed the head."""
+        self.bytes, self.is_alone, self.is_reported, self.is_turned_away, self.is_bare = 0, False, False, False, False
         self.is_push, self.last = is_push, b""
 
     def look(self, piece: bytes) -> None:
@@ -32,6 +37,8 @@ class Carried:
 
     def hand_on(self, source: int) -> None:
         while piece := os.read(source, PIECE):
+            self.is_turned_away = self.is_turned_away or (not self.bytes and piece.startswith(STATUS))
+            self.is_bare = not self.bytes and piece.endswith(BLANK)
             if self.is_push:
                 self.look(piece)
             try:
@@ -53,7 +60,7 @@ class Served:
         """How it ended, for the log. What is reported of a push for which the host was not asked is that it is refused."""
         if self.carried.is_alone:
             return "client-gone"
-        ended = "refused" if self.carried.is_reported else "ok"
+        ended = "refused" if self.carried.is_reported or self.carried.is_turned_away else "ok"
         return self.words or (ended if self.status == 0 else "failed")
 
 

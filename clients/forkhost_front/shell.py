@@ -3,7 +3,7 @@ import os
 import sys
 
 from forkhost_client.address import is_tenant
-from forkhost_client.faults import Fatal, HostFault, Refused
+from forkhost_client.faults import Fatal, HostFault, Refused, word_of
 from forkhost_client.frames import bytes_of
 from forkhost_client.progress import say
 
@@ -71,7 +71,7 @@ def main(words: list) -> int:
         sys.stderr.buffer.write(b"forkhost: " + bytes_of(str(refusal)) + b"\n")
         return REFUSED
     except HostFault as fault:
-        entry.reply = f"host-{fault.word}"
+        entry.reply = word_of(fault)
         say(str(fault))
     except Fatal as fault:
         say(entry.log.shown(fault, tenant, entry.repository))

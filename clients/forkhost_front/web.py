@@ -4,7 +4,7 @@ import sys
 from _signal import SIG_IGN, SIGTERM, signal
 
 from forkhost_client.address import repository_of
-from forkhost_client.faults import Fatal, HostFault, Refused
+from forkhost_client.faults import Fatal, HostFault, Refused, word_of
 from forkhost_client.progress import say
 
 from .asked import READ, WRITE
@@ -18,7 +18,9 @@ LIST = "info/refs"
 SERVICE = "service="
 # What http-backend wants to know of the request (git-http-backend(1)).
 KEPT = ("REQUEST_METHOD", "QUERY_STRING", "CONTENT_TYPE", "CONTENT_LENGTH", "REMOTE_ADDR")
-KEPT += ("HTTP_CONTENT_ENCODING", "HTTP_GIT_PROTOCOL")
+# If a body is not in this form, http-backend ends well, after a head alone. Git compresses no request that has no answer.
+ENCODING = "HTTP_CONTENT_ENCODING"
+KEPT += (ENCODING, "HTTP_GIT_PROTOCOL")
 MISSING, FORBIDDEN, FAILED = "404 Not Found", "403 Forbidden", "503 Service Unavailable"
 
 
@@ -66,6 +68,8 @@ def serve(settings: Settings, entry: Entry) -> None:
         entry.reply = refusal.word
         raise Answered(MISSING, service.told(refusal)) from refusal
     entry.reply, entry.bytes = served.word(), served.bytes
+    if ENCODING in os.environ and served.carried.is_bare and entry.reply == "ok":
+        entry.reply = "failed"
 
 
 def answer(status: str, text: str) -> None:
@@ -97,7 +101,7 @@ def judged(settings: Settings, entry: Entry) -> "Answered | None":
         entry.reply = "refused" if entry.reply == "failed" else entry.reply
         return answered
     except HostFault as fault:
-        entry.reply = f"host-{fault.word}"
+        entry.reply = word_of(fault)
         return Answered(FAILED, str(fault))
     except (Fatal, OSError) as fault:
         # The web server's log has it, and where it names places of this machine that of the front end too.

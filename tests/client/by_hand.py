@@ -13,6 +13,7 @@ from lib.program import Ran, done
 from lib.waiting import until, until_it_waits
 from lib.world import CLIENTS, World
 
+MAX_PAYLOAD = 1_048_576
 BLOB = b"hello\n"
 NAME = name_of(b"blob", BLOB)
 
@@ -81,9 +82,22 @@ def show_asking(checks, program, folder):
         ran = world.ran("forkhost-ask", world.host.socket, *words)
         checks.same(f"by hand: {words} is no request", (2, b"", True), (*ran[:2], b"usage: forkhost-ask" in ran.fault))
     show_names_and_streams(world)
+    show_length(world)
     ran = world.ran("forkhost-ask", world.path("nothing"), "alice", "quota")
     checks.same("by hand: nobody is there", (2, b"", True), (*ran[:2], b"cannot reach a host" in ran.fault))
     world.host.ends_well(checks, "after requests by hand")
+
+
+def show_length(world):
+    """The longest request is sent. One more byte is reported before a host is asked, as the host would hang up within it."""
+    long = b"".rjust(MAX_PAYLOAD - len(b"part\n"), b"\n")
+    told = f"forkhost-ask: the request has more than {MAX_PAYLOAD} bytes; a push can be sent in parts\n".encode()
+    for label, socket_path, given, wanted in (
+        ("the longest", world.host.socket, long, done()),
+        ("a byte more", world.host.socket, long + b"\n", Ran(2, b"", told)),
+        ("far more, and nobody is there", world.path("nothing"), long * 3, Ran(2, b"", told)),
+    ):
+        world.checks.same(f"by hand: {label}", wanted, world.ran("forkhost-ask", socket_path, "alice", "part", "-", given=given))
 
 
 def show_names_and_streams(world):

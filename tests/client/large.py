@@ -1,4 +1,5 @@
 """Pushes at the edges of a frame and of an upload, and above them."""
+import os
 import random
 
 from lib.making import commit_of, hashed, tree_of
@@ -145,3 +146,25 @@ def show_full(checks, program, folder):
     smaller = commit_of(world, "source", tree_of(world, "source", *entries[:6]))
     world.succeeds("what fits goes", world.git("source", "push", "-q", pushed.url, f"{smaller}:refs/heads/main"))
     world.host.ends_well(checks, "after a full one")
+
+
+def show_failing(checks, program, folder):
+    """The store fails within an upload: the push drops it, so the host need not keep what came of it."""
+    world = World(checks, program, folder)
+    pushed = Pushed(world)
+    tree = tree_of(world, "source", *(("100644", f"f{at}", pushed.blob(700_000)) for at in range(4)))
+    name = commit_of(world, "source", tree)
+    place = os.path.join(world.host.folder, "objects", tree[:2])
+    os.rmdir(place)
+    with open(place, "xb"):
+        pass
+    push = lambda: world.git("source", "push", "-q", pushed.url, f"{name}:refs/heads/main")
+    ran = push()
+    checks.same("the store fails", (1, True), (ran.status, b"the host failed (store)" in ran.fault))
+    words = [one.word() for one in pushed.watcher.taken()]
+    checks.same("within an upload", True, words.count("part") > 1)
+    checks.same("no upload is open", 0, int(world.ask("@host", "tenants").output.split()[6]))
+    os.remove(place)
+    os.mkdir(place, 0o700)
+    world.succeeds("a push of the same", push())
+    world.host.ends_well(checks, "after a store that failed")

@@ -21,6 +21,8 @@ BAD_LINE = b"! bad-frame\n"
 DEAF, GONE = 100, 60
 # A reply of a MiB has 46 seconds, one that holds up others 30; what a busy machine takes longer is not counted.
 STALLED = 42
+# So many times a place becomes free; and at least once the next one has it in less than so many seconds.
+FREED, AT_ONCE = 5, 0.1
 
 
 def served(program, work, connections, places, *words):
@@ -74,6 +76,30 @@ def show_places(checks, program, work):
         checks.same("the others too", TOLD, exactly(stream, len(TOLD)))
     for stream in (third, fourth, fifth):
         stream.close()
+    checks.same("the end", done(), serving.ended())
+
+
+def show_freed(checks, program, work):
+    """One that waits for a place is served as soon as one is free."""
+    serving = served(program, work, 2 + FREED, 1)
+    held = serving.client()
+    checks.same("the first", TOLD, asked(held))
+    took = []
+    for _ in range(FREED):
+        held.sendall(QUOTA[:3])
+        checks.same("the host waits", True, until_it_waits(serving.child.pid))
+        waiting = serving.client()
+        waiting.sendall(QUOTA)
+        checks.same("a second one waits", True, tells_nothing(waiting, 0.2))
+        begun = time.monotonic()
+        held.close()
+        checks.same("and is served then", TOLD, exactly(waiting, len(TOLD)))
+        took.append(time.monotonic() - begun)
+        held = waiting
+    least = min(took)
+    checks.holds("at once", None if least < AT_ONCE else f"it waited {least:.2f} seconds")
+    held.close()
+    serving.client().close()
     checks.same("the end", done(), serving.ended())
 
 
@@ -287,9 +313,10 @@ def show_synced(checks, program, work):
 
 
 def show_failed_sync(checks, program, work):
-    """If a sync fails, the reply does not go out, and serving ends. The first sync is that of the reserve."""
+    """If a sync fails, the reply does not go out, and serving ends. The first two are those of the reserve and of the
+    state."""
     for label, words in {"in turn": ["--sync"], "at once": ["--sync", "--at-once", "8"]}.items():
-        kept, fails = os.path.join(work, f"kept {label}"), ["-e", "inject=fdatasync:error=EIO:when=3"]
+        kept, fails = os.path.join(work, f"kept {label}"), ["-e", "inject=fdatasync:error=EIO:when=4"]
         traced = Traced(program, os.path.join(work, f"calls {label}"), *fails)
         serving = Serving(traced, os.path.join(work, "socket"), 2, "--dir", kept, *words, *TENANTS)
         with serving.client() as stream:

@@ -34,14 +34,14 @@ def answered(stream):
 
 
 class Failing:
-    """The program, which cannot sync the file at a path."""
+    """The program, which can sync the file at a path once, and then no more."""
 
     def __init__(self, program, path):
         self.program, self.path = program, path
 
     def begun(self, *words):
         pipe = subprocess.PIPE
-        fails = ["-P", self.path, "-e", "trace=fsync", "-e", "inject=fsync:error=EIO"]
+        fails = ["-P", self.path, "-e", "trace=fsync", "-e", "inject=fsync:error=EIO:when=2+"]
         child = subprocess.Popen(["strace", "-f", "-qq", "-o", os.devnull, *fails, self.program.path, *words], stdin=pipe, stdout=pipe, stderr=pipe)
         self.program.running.append(child)
         return child
@@ -64,11 +64,13 @@ def show_gone_folders(checks, program, work):
 
 
 def show_gone_devices(checks, program, work):
-    """With --sync a host whose device takes no write answers nothing, also no request that only asks."""
+    """With --sync a host whose device takes no write any more answers nothing, also no request that only asks."""
     for label, words in WAYS.items():
         kept = os.path.join(work, f"kept {label}")
         serving = Serving(Failing(program, os.path.join(kept, "lock")), os.path.join(work, "socket"), 1, "--dir", kept, *words, *TENANTS)
         with serving.client() as stream:
+            checks.same(f"{label}: before", TOLD, asked(stream))
+            time.sleep(SECOND)
             if "--sync" not in words:
                 checks.same(f"{label}: a request", TOLD, asked(stream))
             else:

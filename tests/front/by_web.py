@@ -1,4 +1,5 @@
 """What a web server is answered that asks for no repository, or for whom it does not know."""
+import gzip
 import urllib.error
 import urllib.request
 
@@ -30,6 +31,8 @@ def show_web(world):
     rows = [" ".join(row[:4]) for row in world.logged()]
     wanted = {"alice info-refs r ok", "alice git-receive-pack r ok", "bob info-refs r no-repository", "- - - refused"}
     checks.same("the log has them", set(), wanted - set(rows))
+    show_turned_away(world)
+    show_compressed(world)
     world.host.kill()
     told = asked(right, "ALICE", password("ALICE"))
     checks.same("the host is gone", (503, "forkhost: the host cannot be asked now\n"), told)
@@ -45,6 +48,41 @@ def show_nameless(world):
         told = (ran.status, head.partition(b"\r\n")[0], text, ran.fault)
         wanted = (0, b"Status: 403 Forbidden", b"forkhost: the web server named no user\n", b"")
         world.checks.same(f"no user: {label}", wanted, told)
+
+
+def show_turned_away(world):
+    """What Git's http-backend turns away by a status is not `ok` in the log."""
+    more = {"FORKHOST_SETTINGS": world.path("front"), "REMOTE_USER": "ALICE"}
+    wrong = {"REQUEST_METHOD": "POST", "CONTENT_TYPE": "text/plain", "PATH_INFO": "/r.git/git-upload-pack"}
+    listing = {"PATH_INFO": "/r.git/info/refs", "QUERY_STRING": "service=git-upload-pack"}
+    cases = (
+        (wrong, b"Status: 415 Unsupported Media Type", "alice git-upload-pack r refused"),
+        (wrong | {"PATH_INFO": "/r.git/git-receive-pack"}, b"Status: 415 Unsupported Media Type", "alice git-receive-pack r refused"),
+        (wrong | {"REQUEST_METHOD": "PUT"}, b"Status: 400 Bad Request", "alice git-upload-pack r refused"),
+        (listing | {"REQUEST_METHOD": "PUT"}, b"Status: 400 Bad Request", "alice info-refs r refused"),
+        (listing | {"REQUEST_METHOD": "GET"}, b"Expires: Fri, 01 Jan 1980 00:00:00 GMT", "alice info-refs r ok"),
+    )
+    for request, wanted, row in cases:
+        ran = world.ran("forkhost-http", more=more | request)
+        told = (ran.output.partition(b"\r\n")[0], " ".join(world.logged()[-1][:4]))
+        world.checks.same(f"{request} is told, and logged", (wanted, row), told)
+
+
+def show_compressed(world):
+    """A body that says that it is gzip's and is not, or is cut, is not `ok` in the log, though Git's http-backend ends well."""
+    listing = gzip.compress(b"0014command=ls-refs\n0019object-format=sha256\n0000", mtime=0)
+    cases = (
+        ("git-upload-pack", listing, "ok"),
+        ("git-upload-pack", b"no gzip", "failed"),
+        ("git-upload-pack", listing[:30], "failed"),
+        ("git-receive-pack", b"no gzip", "failed"),
+    )
+    for word, given, reply in cases:
+        more = {"FORKHOST_SETTINGS": world.path("front"), "REMOTE_USER": "ALICE", "REQUEST_METHOD": "POST"}
+        more |= {"PATH_INFO": f"/r.git/{word}", "CONTENT_TYPE": f"application/x-{word}-request", "HTTP_GIT_PROTOCOL": "version=2"}
+        more |= {"HTTP_CONTENT_ENCODING": "gzip", "CONTENT_LENGTH": str(len(given))}
+        world.ran("forkhost-http", more=more, given=given)
+        world.checks.same(f"{word} of {len(given)} bytes is logged", f"alice {word} r {reply}", " ".join(world.logged()[-1][:4]))
 
 
 def asked(url, user, word):

@@ -1,5 +1,6 @@
 """What is refused, by the host and by Git's own check at the door: in which words, and that nothing comes of it."""
 import hashlib
+import os
 import random
 import zlib
 
@@ -166,6 +167,10 @@ def show_counts(world):
     ran, told = pushed(world, "alice", "--atomic", *rows)
     text = {"[remote rejected] (the host changes at most 256 references at once)"}
     checks.same("all or none", (1, 1500, text, []), (ran.status, len(told), set(told.values()), world.kept("r")))
+    checks.same("all or none: the log", ["refused"], pushes_logged(world))
+    ran, told = pushed(world, "alice", "main:refs/heads/" + "n" * 245)
+    checks.same("a name too long", {"[remote rejected] (the host accepts reference names of at most 255 bytes)"}, set(told.values()))
+    checks.same("a name too long: the log", ["refused"], pushes_logged(world))
     ran, told = pushed(world, "alice", *rows)
     checks.same("else in several", (0, {}, 1500), (ran.status, told, len(world.kept("r"))))
     copy = world.cloned("a clone of many", "r", "--mirror")
@@ -173,6 +178,31 @@ def show_counts(world):
     ran, told = pushed(world, "alice", "--mirror")
     checks.same("all but one go", (0, [f"{tip} refs/heads/main"]), (ran.status, world.kept("r")))
     world.host.ends_well(checks, "after counts")
+
+
+def pushes_logged(world):
+    """The replies' words of the pushes since the last look; a push over HTTP is a request with what comes."""
+    return [row[3] for row in world.logged() if row[1] == "git-receive-pack"]
+
+
+def show_failing(world):
+    """The host's store fails at a push: the log has the word of the fault."""
+    world.init("alice", "r")
+    (tip,) = line(world, world.repository("source"), "one")
+    place = os.path.join(world.host.folder, "objects", tip[:2])
+    os.rmdir(place)
+    with open(place, "xb"):
+        pass
+    world.logged()
+    ran, told = pushed(world, "alice", "main:refs/heads/main")
+    text = "[remote rejected] (the host failed (store) and this request changed nothing; it may be sent again)"
+    world.checks.same("the store fails", (1, {"refs/heads/main": text}), (ran.status, told))
+    world.checks.same("the store fails: the log", ["host-store"], pushes_logged(world))
+    os.remove(place)
+    os.mkdir(place, 0o700)
+    ran, told = pushed(world, "alice", "main:refs/heads/main")
+    world.checks.same("the store no longer fails", (0, {}, ["ok"]), (ran.status, told, pushes_logged(world)))
+    world.host.ends_well(world.checks, "after a store that failed")
 
 
 def show_uploads(world):

@@ -21,6 +21,8 @@ class Checks:
         self.passed = self.failed = 0
         # What each failure begins with.
         self.kind = ""
+        # The names of all subjects that there are.
+        self.subjects = set()
 
     def same(self, label, wanted, told):
         """One check: the value is the wanted one."""
@@ -52,16 +54,20 @@ class Checks:
 
     def show_at_once(self, shows, count, world=None):
         """Shows the subjects that the command line names, or all, this many at once, and ends."""
-        chosen = [show for show in shows if show.__name__ in sys.argv[2:] or not sys.argv[2:]]
         with ProcessPoolExecutor(count) as pool:
-            for passed, failed in pool.map(counts, chosen, repeat(world)):
+            for passed, failed in pool.map(counts, self.chosen(shows), repeat(world)):
                 self.add(passed, failed)
         self.end()
 
+    def chosen(self, shows):
+        """Those that the command line names, or all."""
+        self.subjects.update(show.__name__ for show in shows)
+        return [show for show in shows if show.__name__ in sys.argv[2:] or not sys.argv[2:]]
+
     def run(self, shows, program, world=None):
-        """Shows each subject in a new folder, or in a world that is made there; one that breaks off in any way counts as a failure."""
+        """Shows each chosen subject in a new folder, or in a world that is made there; one that breaks off in any way counts as a failure."""
         with tempfile.TemporaryDirectory() as work:
-            for show in shows:
+            for show in self.chosen(shows):
                 folder = os.path.join(work, show.__name__)
                 os.mkdir(folder)
                 try:
@@ -78,6 +84,9 @@ class Checks:
             show(made)
 
     def end(self):
+        for name in sys.argv[2:]:
+            if self.subjects and name not in self.subjects:
+                self.holds(name, "no subject has this name")
         print(f"{self.passed} passed, {self.failed} failed")
         sys.exit(self.failed != 0 or self.passed == 0)
 

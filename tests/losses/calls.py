@@ -13,7 +13,9 @@ NAMES = "rename,renameat,renameat2,link,linkat,symlink,symlinkat,unlink,unlinkat
 SYNCS = "fsync,fdatasync,sync,syncfs,sync_file_range,msync"
 OTHERS = "dup,dup2,dup3,accept,accept4,sendto,sendmsg,splice,io_uring_setup"
 LONGEST = 1 << 24
-STRACE = ["strace", "-D", "-f", "--seccomp-bpf", "-xx", "-s", str(LONGEST), "-e", f"trace={FILES},{NAMES},{SYNCS},{OTHERS}"]
+STRACE = ["strace", "-D", "-f", "-xx", "-s", str(LONGEST), "-e", f"trace={FILES},{NAMES},{SYNCS},{OTHERS}"]
+# What is not traced goes on undelayed. With it strace would kill at no call.
+FAST = "--seccomp-bpf"
 # No file grows longer, in KiB: a host then makes no reserve, whose zeros the log would have. A shell lets the signal for it
 # be ignored.
 MOST = 32768
@@ -80,9 +82,11 @@ class Traced(Program):
     def log(self):
         return os.path.join(self.work, f"calls{self.count}")
 
-    def begun(self, *words, stdin=subprocess.PIPE, stdout=subprocess.PIPE):
+    def begun(self, *words, stdin=subprocess.PIPE, stdout=subprocess.PIPE, renames=None):
+        """Starts it. It may be killed when it renames a file for the time of this number, before that is done."""
         self.count += 1
-        given = [*STRACE, "-o", self.log(), *LIMITED, *self.given(*words)]
+        way = ["-e", f"inject=rename:signal=KILL:when={renames}"] if renames else [FAST]
+        given = [*STRACE, *way, "-o", self.log(), *LIMITED, *self.given(*words)]
         child = subprocess.Popen(given, stdin=stdin, stdout=stdout, stderr=subprocess.PIPE)
         self.running.append(child)
         until(lambda: os.path.exists(self.log()) or child.poll() is not None)

@@ -1,5 +1,6 @@
 """What was done in a recording, and when: the requests that a journal has, which of them were acknowledged, and which a saved
 state has."""
+import hashlib
 from typing import NamedTuple
 
 from folders.killing import changes
@@ -104,38 +105,36 @@ def done_in(recording):
 
 
 def savings_of(past):
-    """The events by which a state was saved, with its journal."""
+    """The events by which a state was saved, with its journal: that by which it took its place, or by which a journal did that
+    goes on from the state in place, and that by which this was synced."""
     moments, found, renamed = Moments(past), [], {}
+    standing = begun = name_of(state_at_first(past))
     for at, event in enumerate(past.events):
         if isinstance(event, Named):
             moments.change(event)
             for folder, name, inode in event.entries:
-                if inode is None and renamed.get(folder, (0, None))[1] == name:
-                    # A journal of a state that never came is removed by the next start.
-                    renamed.pop(folder)
-                if inode is not None and folder == moments.at() and name == b"state":
-                    renamed[folder] = at, name
-                if inode is not None and folder == moments.at(b"journal") and name.endswith(b".2"):
-                    renamed[folder] = at, name
+                if inode is None:
+                    continue
+                if folder == moments.at() and name == b"state":
+                    standing, renamed[folder] = begun, at
+                if folder == moments.at(b"journal") and name.endswith(b".2"):
+                    begun = name.removesuffix(b".2")
+                    # One that goes on from another state is used once that state is in place.
+                    if begun == standing:
+                        renamed[folder] = at
         elif isinstance(event, Synced) and event.inode in renamed:
-            begun, _ = renamed.pop(event.inode)
-            if event.inode == moments.at() or not is_state_to_come(past, moments, at):
-                found.append((begun, at))
+            found.append((renamed.pop(event.inode), at))
     return found
 
 
-def is_state_to_come(past, moments, at):
-    """Whether after a journal got its name a state does, before anything is done. A part that is removed is none to come."""
-    for event in past.events[at:]:
-        if isinstance(event, Told):
-            return False
-        if isinstance(event, Named):
-            changed = {name: inode for folder, name, inode in event.entries if folder == moments.at()}
-            if b"state" in changed or b"part" in changed:
-                return changed.get(b"state") is not None
-            if any(folder == moments.at(b"journal") for folder, _, _ in event.entries):
-                return False
-    return False
+def state_at_first(past):
+    """The state's text before the first event, or none."""
+    return past.first_bytes.get(Moments(past).at(b"state"), b"")
+
+
+def name_of(state):
+    """The name of the journal that goes on from this state."""
+    return hashlib.sha256(state).hexdigest().encode()
 
 
 def answered(recording, leg):

@@ -98,7 +98,7 @@ class Recording:
         serving = [self.one_after_another, self.at_once] * 2
         if grants:
             return serving
-        return [*serving, self.by_upgrade, *([self.by_run] if self.is_run else []), *([self.by_repack] * 4 if self.repacks else [])]
+        return [*serving, self.by_upgrade, self.by_start, *([self.by_run] if self.is_run else []), *([self.by_repack] * 4 if self.repacks else [])]
 
     def turns(self, least):
         """Random requests, and sometimes an object among them that is pruned, swept and pushed again, once or twice."""
@@ -139,6 +139,11 @@ class Recording:
         giving.join()
         with contextlib.suppress(OSError):
             stream.close()
+
+    def by_start(self, _leg, words):
+        """A process that is killed while it saves what the folder keeps: before the journal gets its name, or before the state
+        gets the place that this journal goes on from."""
+        self.program.begun("upgrade", *words, renames=self.chance.randint(1, 2)).communicate()
 
     def by_upgrade(self, _leg, words):
         """A process that saves what the folder keeps, with its open uploads, and serves nothing."""

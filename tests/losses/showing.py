@@ -4,26 +4,17 @@ import tempfile
 from concurrent.futures import ProcessPoolExecutor
 from itertools import repeat
 
+from lib.places import in_memory
 from losses.lives import Found, Life, Way
 from losses.syncing import BESIDE, LOG, LOOSE, PACKED, REPACKED
 
 LIVES, FOLDERS, TRIES = 20, 40, 6
-# A folder in memory, where a sync costs nothing, is used if there is so much space.
-MEMORY, SPACE = "/dev/shm", 1 << 30
 LONGEST = 300
-
-
-def place():
-    """Where folders are made; None is the usual place."""
-    if not os.path.isdir(MEMORY):
-        return None
-    there = os.statvfs(MEMORY)
-    return MEMORY if there.f_bavail * there.f_frsize >= SPACE else None
 
 
 def lived(program, seed, way):
     """What is found in one life, and the error at which it broke off, or None."""
-    with tempfile.TemporaryDirectory(dir=place()) as work:
+    with tempfile.TemporaryDirectory(dir=in_memory()) as work:
         life, broken = Life(program, work, seed, way), None
         try:
             life.live()

@@ -33,14 +33,17 @@ nothing_lost s lost is some =
     let parts = length-append s lost in
     omega (arith, whole, parts)
 
--- no whole piece follows where a log ends
-no_more : (kind : SumKind) (before left p rest : List ℕ) (ended : Ended) → EndsAs before left ended → Fits p → left ≡ piece_bytes kind before p ++ rest → ⊥
-no_more kind before left p rest Whole ends fits is = some_bytes kind before p rest (sym is ∙ ends)
-no_more kind before left p rest Cut ends fits is =
-    let cut = ends.1 in
+-- what begins with a whole piece is not cut
+pub not_cut_piece : (kind : SumKind) (before left p rest : List ℕ) → IsCut before left → Fits p → left ≡ piece_bytes kind before p ++ rest → ⊥
+not_cut_piece kind before left p rest cut fits is =
     let whole : piece_bytes kind before p ++ (rest ++ cut.lost) ≡ piece_bytes cut.kind before cut.piece ++ [] =
     sym (append_assoc (piece_bytes kind before p) rest cut.lost) ∙ (ap (λ l. l ++ cut.lost) (sym is) ∙ (cut.parts ∙ sym (append-nil _))) in
     nothing_lost rest cut.lost (one_piece kind cut.kind before p cut.piece (rest ++ cut.lost) [] fits cut.fits whole).2 cut.some
+
+-- no whole piece follows where a log ends
+no_more : (kind : SumKind) (before left p rest : List ℕ) (ended : Ended) → EndsAs before left ended → Fits p → left ≡ piece_bytes kind before p ++ rest → ⊥
+no_more kind before left p rest Whole ends fits is = some_bytes kind before p rest (sym is ∙ ends)
+no_more kind before left p rest Cut ends fits is = not_cut_piece kind before left p rest ends.1 fits is
 no_more kind before left p rest Altered ends fits is = ends kind p [] rest fits (append-nil left ∙ is)
 
 nothing_is_right : (before left : List ℕ) → left ≡ [] → IsAltered before left → ⊥

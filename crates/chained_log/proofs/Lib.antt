@@ -1,7 +1,12 @@
+pub mod ContentsLemmas
 pub mod Examples
 pub mod FoundLemmas
 pub mod LawLemmas
+pub mod LeftLemmas
 pub mod NextLemmas
 pub mod NextPartsLemmas
 pub mod ReadingLemmas
 pub mod SumLemmas
+pub mod SyncedLemmas
+pub mod WholeLemmas
+pub mod WritingLemmas

@@ -4,7 +4,7 @@ use Rattle.std.proofs.lemmas.List.{take_all, take-append-drop, take-append-le}
 use Rattle.std.proofs.Math.Seq.{take-append-add, take-append_seam}
 
 -- the front of a front
-front_of : (k n : ℕ) (xs : List ℕ) → k ≤ n → k ≤ length xs → take k (take n xs) ≡ take k xs
+pub front_of : (k n : ℕ) (xs : List ℕ) → k ≤ n → k ≤ length xs → take k (take n xs) ≡ take k xs
 front_of k n xs short inside =
     let most : k ≤ length (take n xs) = (let is = length-take n xs in omega (arith, is)) in
     sym (ap (take k) (sym (take-append-drop n xs)) ∙ take-append-le k (take n xs) (drop n xs) most)

@@ -1,3 +1,6 @@
 pub mod Laws
 pub mod Log
 pub mod Next
+pub mod Reading
+pub mod Synced
+pub mod Writing

@@ -7,6 +7,7 @@ pub enum Ended {
     /// are zero. A loss of power leaves zeros where what was appended did not reach the disk, and no sum is
     /// zero.
     Cut,
-    /// What comes next is neither a piece nor the front of one.
+    /// What comes next is neither a piece nor the front of one, and the last 32 bytes of the log are not zero,
+    /// or could not be read.
     Altered,
 }

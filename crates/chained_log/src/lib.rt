@@ -3,6 +3,7 @@
 #![tactic(auto)]
 
 mod fault;
+mod file_writer;
 mod format;
 mod laws;
 mod next;
@@ -12,7 +13,11 @@ mod sync;
 mod writer;
 
 pub use crate::fault::Ended;
-pub use crate::laws::what_is_written_is_found;
+pub use crate::file_writer::FileWriter;
+pub use crate::laws::{
+    contents_are_what_was_written, known_contents_are_whole, what_is_synced_stays,
+    what_is_written_is_found,
+};
 pub use crate::next::{Found, next_piece};
 pub use crate::reader::LogReader;
 pub use crate::sync::SyncData;

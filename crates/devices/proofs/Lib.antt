@@ -9,4 +9,5 @@ pub mod NameLemmas
 pub mod PartLemmas
 pub mod SeenLemmas
 pub mod SinkLemmas
+pub mod SourceLemmas
 pub mod TreeLemmas

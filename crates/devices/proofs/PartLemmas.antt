@@ -5,7 +5,7 @@ use Rattle.std.specs.FinMap.{get}
 use Rattle.devices.specs.Crash.{File, Names, MayNames, MayBytes, MayLeave, Stands, IsIn, set, moved, added_to, names_after, bytes_after, has_failed, folder_has_failed}
 use Rattle.devices.specs.Device.{Files, Effect, Past, Wrote, Added, Moved, Removed, SyncedFile, SyncedFolder, FailedFile, FailedFolder, files_of, with_effect}
 use Rattle.devices.specs.Moments.{HoldsAtEach, Throughout, past_with}
-use Rattle.devices.specs.Parts.{AreAppends, AreOf, IsAppend, IsOf, IsSure, IsWritten, LeavesAs, LeavesAsOr, MayStand, WritesPart, placing}
+use Rattle.devices.specs.Parts.{AreAppends, AreOf, DropsPart, IsAppend, IsOf, IsSure, IsWritten, LeavesAs, LeavesAsOr, MayStand, WritesPart, placing}
 use Rattle.devices.specs.Runs.{Runs}
 use Rattle.devices.proofs.BeforeLemmas.{aged, before, older}
 use Rattle.devices.proofs.ByteLemmas.{the_file}
@@ -153,6 +153,24 @@ pub part_names : (part folder : List ℕ) (old new : Past) → WritesPart part o
 part_names part folder old new (inl is) = ap (λ (p : Past). folder_has_failed p.effects folder) is
 part_names part folder old new (inr (first, done, each, is)) =
     ap (λ (p : Past). folder_has_failed p.effects folder) is ∙ all_names part folder done (Wrote part first ∷ old.effects) each
+
+-- ---- a part that is dropped
+dropped_still : (part q : List ℕ) (old : Past) → pointwise nat_eq part q ≡ false → (found : Option (List ℕ)) → MayStand (with_effect old (Removed part)) q found → MayStand old q found
+dropped_still part q old off found (m, may, stands) =
+    let was = before old.base old.effects (Removed part) m may in
+    (was.names, was.may, by (was.names q) (subst (λ (o : Option File). Stands old.base (Removed part ∷ old.effects) o found) (was.others q off) stands))
+  where
+    by : (o : Option File) → Stands old.base (Removed part ∷ old.effects) o found → Stands old.base old.effects o found
+    by None stands = stands
+    by (Some f) stands = stands
+
+pub dropped_leaves : (part q : List ℕ) (old new : Past) → pointwise nat_eq part q ≡ false → DropsPart part old new → Throughout (LeavesAs old q) old new
+dropped_leaves part q old new off (inl is) = throughout_none (LeavesAs old q) old new is (λ left may. may)
+dropped_leaves part q old new off (inr is) = record { done = Removed part ∷ []; all = is; each = (dropped_still part q old off, λ left may. may) }
+
+pub dropped_names : (part folder : List ℕ) (old new : Past) → DropsPart part old new → folder_has_failed new.effects folder ≡ folder_has_failed old.effects folder
+dropped_names part folder old new (inl is) = ap (λ (p : Past). folder_has_failed p.effects folder) is
+dropped_names part folder old new (inr is) = ap (λ (p : Past). folder_has_failed p.effects folder) is
 
 -- ---- a part that was synced
 appends_of : (part : List ℕ) (e : Effect) → IsAppend part e → IsOf part e

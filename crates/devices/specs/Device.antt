@@ -6,7 +6,7 @@ use Rattle.std.specs.FinMap.{FinMap, get, insert, remove}
 use Rattle.std.specs.Ordering.{nat_cmp}
 use Rattle.std.specs.Cmp.Lexicographic.{slice_cmp, pointwise}
 use Rattle.devices.specs.declared.device.DeviceFault.{DeviceFault}
-use Rattle.devices.specs.declared.device.DeviceFault.TheVariants.{Device}
+use Rattle.devices.specs.declared.device.DeviceFault.TheVariants.{Device, Room}
 
 -- bytes by path
 abbrev pub Files : Type 0
@@ -76,6 +76,10 @@ Does effect old new (Err fault) = (new ≡ old) ⊎ ((part : Effect) × IsPart e
 -- unless the fault is `Device`, nothing was tried
 abbrev pub Untried : {A : Type 0} → Past → Past → Result A DeviceFault → Type 0
 Untried old new result = IfErr result (λ fault. fault ≢ Device → new ≡ old)
+
+-- if there was no room, nothing was done
+abbrev pub Unroomed : {A : Type 0} → Past → Past → Result A DeviceFault → Type 0
+Unroomed old new result = IfErr result (λ fault. fault ≡ Room → new ≡ old)
 
 -- the bytes of a file that a read with this bound returns: none if there are more
 abbrev pub within : ℕ → List ℕ → List ℕ

@@ -7,3 +7,4 @@ pub mod Note
 pub mod Parts
 pub mod Runs
 pub mod Sink
+pub mod Source

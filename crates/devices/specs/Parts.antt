@@ -62,6 +62,10 @@ pub record IsWritten (path text : List ℕ) (old new : Past) : Type 0 where
   pub all : new ≡ past_with (with_effect old (Wrote path [])) (SyncedFile path ∷ pieces)
   pub bytes : get (files_of new) path ≡ Some text
 
+-- a part that is not wanted: nothing was done, or the file at this path was removed
+abbrev pub DropsPart : List ℕ → Past → Past → Type 0
+DropsPart path old new = (new ≡ old) ⊎ (new ≡ with_effect old (Removed path))
+
 -- a file is moved to a path, and the names in its folder are synced
 abbrev pub placing : List ℕ → List ℕ → List ℕ → List Effect
 placing part path folder = Moved part path ∷ SyncedFolder folder ∷ []

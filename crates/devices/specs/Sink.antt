@@ -20,7 +20,7 @@ abbrev pub before_appends : List ℕ → List Effect → List Effect
 before_appends path [] = []
 before_appends path (effect ∷ past) = cond (is_append path effect) (before_appends path past) (effect ∷ past)
 
--- the bytes of a file of an honest device: none if it does not exist. Nothing is known of another's
+-- the bytes of a file of an honest device: none if it does not exist. Nothing is known of a device that is not honest
 abbrev pub bytes_known : Bool → Past → List ℕ → Option (List ℕ)
 bytes_known true past path = Some (bytes_or_none (get (files_of past) path))
 bytes_known false past path = None

@@ -1,6 +1,6 @@
-ghost use Rattle.std.specs.Prelude.{◌≡◌, Bool, IsTrue, IfOk, map as each, option_and_then, option_map};
+ghost use Rattle.std.specs.Prelude.{◌≡◌, Bool, IsTrue, IfOk, length, map as each, option_and_then, option_map};
 ghost use Rattle.std.specs.FinMap as map;
-ghost use Rattle.devices.specs.Device.{Past, Does, Wrote, Added, Moved, Removed, SyncedFile, SyncedFolder, Untried, files_of, names_in_folder, part_of, within};
+ghost use Rattle.devices.specs.Device.{Past, Does, Wrote, Added, Moved, Removed, SyncedFile, SyncedFolder, Unroomed, Untried, files_of, names_in_folder, part_of, within};
 
 use std::alloc::{AllocError, AllocFailed, Global};
 use std::io;
@@ -18,6 +18,8 @@ pub enum DeviceFault {
     Missing,
     #[error("no memory")]
     Memory,
+    #[error("no room")]
+    Room,
 }
 
 impl From<AllocError> for DeviceFault {
@@ -37,7 +39,22 @@ impl From<DeviceFault> for io::Error {
         match fault {
             DeviceFault::Memory => io::Error::from(ErrorKind::OutOfMemory),
             DeviceFault::Missing => io::Error::from(ErrorKind::NotFound),
-            DeviceFault::Device | DeviceFault::Unopened => io::Error::from(ErrorKind::Other),
+            DeviceFault::Room => io::Error::from(ErrorKind::StorageFull),
+            DeviceFault::Unopened => io::Error::from(ErrorKind::PermissionDenied),
+            DeviceFault::Device => io::Error::from(ErrorKind::Other),
+        }
+    }
+}
+
+/// The fault that an error of a sink stands for.
+impl From<io::Error> for DeviceFault {
+    fn from(error: io::Error) -> Self {
+        match error.kind() {
+            ErrorKind::OutOfMemory => DeviceFault::Memory,
+            ErrorKind::NotFound => DeviceFault::Missing,
+            ErrorKind::StorageFull => DeviceFault::Room,
+            ErrorKind::PermissionDenied => DeviceFault::Unopened,
+            _ => DeviceFault::Device,
         }
     }
 }
@@ -55,6 +72,10 @@ pub trait Device {
     fn read(&self, alloc: Global, path: &str, most: u64) -> Result<Option<Vec<u8>>, DeviceFault>
         ensures { IsTrue (honest self.now) → IfOk result (λ found. option_map (λ bytes. bytes.items) found ≡ option_map (within most) (map.get (files_of (past self.now)) path.now)) };
 
+    /// How many bytes a file has, if it exists.
+    fn len(&self, path: &str) -> Result<Option<u64>, DeviceFault>
+        ensures { IsTrue (honest self.now) → IfOk result (λ found. found ≡ option_map length (map.get (files_of (past self.now)) path.now)) };
+
     /// A part of a file: so many bytes from a place on. `None` if it does not exist or has fewer bytes.
     fn read_part(
         &self,
@@ -65,15 +86,17 @@ pub trait Device {
     ) -> Result<Option<Vec<u8>>, DeviceFault>
         ensures { IsTrue (honest self.now) → IfOk result (λ found. option_map (λ bytes. bytes.items) found ≡ option_and_then (part_of at len) (map.get (files_of (past self.now)) path.now)) };
 
-    /// Writes a whole file, replacing one at this path. Call it only if no change of the replaced file's path is unsynced: a
-    /// system may empty that file in place of making a new one.
+    /// Writes a whole file, replacing one at this path. `Unopened` if that file could not be opened. Call it only if no change of
+    /// the replaced file's path is unsynced: a system may empty that file in place of making a new one.
     fn write(&mut self, path: &str, bytes: &[u8]) -> Result<(), DeviceFault>
         ensures effect { IsTrue (honest self.old) → Does (Wrote path.now bytes.now) (past self.old) (past self.new) result }
+        ensures room { IsTrue (honest self.old) → Unroomed (past self.old) (past self.new) result }
         ensures honest { honest self.new ≡ honest self.old };
 
     /// Writes after the end of a file, and creates it if it does not exist.
     fn append(&mut self, path: &str, bytes: &[u8]) -> Result<(), DeviceFault>
         ensures effect { IsTrue (honest self.old) → Does (Added path.now bytes.now) (past self.old) (past self.new) result }
+        ensures room { IsTrue (honest self.old) → Unroomed (past self.old) (past self.new) result }
         ensures honest { honest self.new ≡ honest self.old };
 
     /// Renames a file, replacing one of that name. Returns whether there was a file to rename. If there was none, it changes
@@ -81,11 +104,13 @@ pub trait Device {
     fn rename(&mut self, from: &str, to: &str) -> Result<bool, DeviceFault>
         ensures there { IsTrue (honest self.old) → IfOk result (λ was. was ≡ map.contains_key (files_of (past self.old)) from.now) }
         ensures effect { IsTrue (honest self.old) → Does (Moved from.now to.now) (past self.old) (past self.new) result }
+        ensures room { IsTrue (honest self.old) → Unroomed (past self.old) (past self.new) result }
         ensures honest { honest self.new ≡ honest self.old };
 
     /// Removes a file. If there is none, it succeeds and changes nothing.
     fn remove(&mut self, path: &str) -> Result<(), DeviceFault>
         ensures effect { IsTrue (honest self.old) → Does (Removed path.now) (past self.old) (past self.new) result }
+        ensures room { IsTrue (honest self.old) → Unroomed (past self.old) (past self.new) result }
         ensures honest { honest self.new ≡ honest self.old };
 
     /// The names of the files right in a folder, ascending bytewise.

@@ -4,7 +4,7 @@ ghost use Rattle.devices.specs.Crash.{IsIn, MayLeave, folder_has_failed};
 ghost use Rattle.devices.specs.Device.{Effect, Files, Past, files_after};
 ghost use Rattle.devices.specs.Loss.{left_at};
 ghost use Rattle.devices.specs.Moments.{Throughout};
-ghost use Rattle.devices.specs.Parts.{IsSure, IsWritten, LeavesAs, LeavesAsOr, WritesPart, placing};
+ghost use Rattle.devices.specs.Parts.{DropsPart, IsSure, IsWritten, LeavesAs, LeavesAsOr, WritesPart, placing};
 ghost use Rattle.devices.specs.Runs.{Runs};
 ghost use Rattle.devices.specs.declared.device.DeviceFault.{DeviceFault};
 ghost use Rattle.devices.specs.declared.fate.Fate.{Fate};
@@ -24,6 +24,13 @@ pub fn what_fates_choose_may_be_left()
 pub fn a_part_leaves_other_files()
     ensures each { (part path : List ℕ) (old new : Past) → part ≢ path → WritesPart part old new → Throughout (LeavesAs old path) old new }
     ensures names { (part folder : List ℕ) (old new : Past) → WritesPart part old new → folder_has_failed new.effects folder ≡ folder_has_failed old.effects folder }
+{}
+
+/// A law, with no code to run: when a part is dropped, a loss of power leaves at any other path what it might have left there
+/// before, and no sync of a folder fails.
+pub fn a_dropped_part_leaves_other_files()
+    ensures each { (part path : List ℕ) (old new : Past) → part ≢ path → DropsPart part old new → Throughout (LeavesAs old path) old new }
+    ensures names { (part folder : List ℕ) (old new : Past) → DropsPart part old new → folder_has_failed new.effects folder ≡ folder_has_failed old.effects folder }
 {}
 
 /// A law, with no code to run: when a part that was written and synced takes the place of a file, a loss of power leaves there

@@ -11,6 +11,10 @@ impl<D: Device> Device for &mut D {
         (**self).read(alloc, path, most)
     }
 
+    fn len(&self, path: &str) -> Result<Option<u64>, DeviceFault> {
+        (**self).len(path)
+    }
+
     fn read_part(
         &self,
         alloc: Global,

@@ -5,6 +5,7 @@
 mod bytes_left;
 mod device;
 mod fate;
+mod file_reader;
 mod file_sink;
 mod kept;
 mod laws;
@@ -23,10 +24,11 @@ mod tree;
 
 pub use crate::device::{Device, DeviceFault};
 pub use crate::fate::Fate;
+pub use crate::file_reader::FileReader;
 pub use crate::file_sink::FileSink;
 pub use crate::laws::{
-    a_part_leaves_other_files, a_part_takes_its_place_at_once, no_fates_lose_nothing,
-    what_fates_choose_may_be_left,
+    a_dropped_part_leaves_other_files, a_part_leaves_other_files, a_part_takes_its_place_at_once,
+    no_fates_lose_nothing, what_fates_choose_may_be_left,
 };
 pub use crate::memory::Memory;
 pub use crate::real::Real;

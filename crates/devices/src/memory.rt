@@ -1,4 +1,4 @@
-ghost use Rattle.std.specs.Prelude.{◌≡◌, ◌∷◌, ◌++◌, [], List, ℕ, drop, OnOk, OnErr, IfOk, Some, None, true, option_and_then, option_map};
+ghost use Rattle.std.specs.Prelude.{◌≡◌, ◌∷◌, ◌++◌, [], List, ℕ, drop, length, OnOk, OnErr, IfOk, Some, None, true, option_and_then, option_map};
 ghost use Rattle.std.specs.FinMap as map;
 ghost use Rattle.devices.specs.Device.{bytes_or_none, part_of, put_there, within};
 ghost use Rattle.devices.specs.Crash.{MayLeave};
@@ -130,6 +130,16 @@ fn read_in(
     Ok(Some(found.as_bytes().to_vec(alloc)?))
 }
 
+// How many bytes a file has, if it exists.
+fn len_in(files: &Tree, path: &Text) -> Option<u64>
+    ensures { result ≡ option_map length (map.get files.now path.now) }
+{
+    match files.get(path) {
+        Some(found) => Some(found.as_bytes().len() as u64),
+        None => None,
+    }
+}
+
 // A part of a file's bytes, if it has so many.
 fn read_part_in(
     alloc: Global,
@@ -206,6 +216,14 @@ impl Device for Memory {
         }
         let path = Text::new(self.alloc, path.as_bytes())?;
         Ok(read_in(alloc, &self.files, &path, most)?)
+    }
+
+    fn len(&self, path: &str) -> Result<Option<u64>, DeviceFault> {
+        if fails(&self.passing) {
+            return Err(DeviceFault::Device);
+        }
+        let path = Text::new(self.alloc, path.as_bytes())?;
+        Ok(len_in(&self.files, &path))
     }
 
     fn read_part(

@@ -15,15 +15,16 @@ use std::path::Path;
 use std::rt::Files;
 use std::{fs, io};
 
-/// The files in a folder of the operating system, which it has locked. It claims nothing: no contract says what the
+/// The files in a folder of the operating system, which this process has locked. It claims nothing: no contract says what the
 /// system's files hold.
 #[derive(Drop)]
 pub struct Real<R> {
     rt: R,
     alloc: Global,
     folder: String,
-    lock: File,
-    // The file of which a part was read last, and the one that was appended to last, unless a path was changed since.
+    // None if another owner in this process has it.
+    lock: Option<File>,
+    // The file of which a part was read last, and the one that was appended to last, unless another file took its path since.
     reading: Cell<Option<Opened>>,
     appending: Option<Opened>,
 }
@@ -48,17 +49,36 @@ fn inside(alloc: Global, folder: &str, path: &str) -> io::Result<String> {
 fn fault_of(error: io::Error) -> DeviceFault {
     match error.kind() {
         ErrorKind::OutOfMemory => DeviceFault::Memory,
+        ErrorKind::StorageFull | ErrorKind::QuotaExceeded => DeviceFault::Room,
+        _ => DeviceFault::Device,
+    }
+}
+
+// Why a file was not opened.
+fn unopened(error: io::Error) -> DeviceFault {
+    match error.kind() {
+        ErrorKind::OutOfMemory => DeviceFault::Memory,
+        ErrorKind::StorageFull | ErrorKind::QuotaExceeded => DeviceFault::Room,
+        _ => DeviceFault::Unopened,
+    }
+}
+
+// Why a file was not written whole. A front of its bytes may be there, so that is not want of room.
+fn unwritten(error: io::Error) -> DeviceFault {
+    match error.kind() {
+        ErrorKind::OutOfMemory => DeviceFault::Memory,
         _ => DeviceFault::Device,
     }
 }
 
 impl<R: Files<File = File> + Drop> Real<R> {
-    /// Locks the folder at this path, which exists. While it is open, another process that opens it gets `Device`. A
-    /// process that is killed unlocks it.
-    pub fn open(rt: R, alloc: Global, folder: &str) -> Result<Real<R>, DeviceFault> {
-        let path = inside(alloc, folder, "lock").map_err(fault_of)?;
+    fn with(
+        rt: R,
+        alloc: Global,
+        folder: &str,
+        lock: Option<File>,
+    ) -> Result<Real<R>, DeviceFault> {
         let folder = String::from_str(alloc, folder)?;
-        let lock = locked(&rt, path.as_str()).map_err(fault_of)?;
         Ok(Real {
             rt,
             alloc,
@@ -69,16 +89,43 @@ impl<R: Files<File = File> + Drop> Real<R> {
         })
     }
 
+    /// Locks the folder at this path, which exists. While it is open, another process that opens it gets `Device`. A
+    /// process that is killed unlocks it.
+    pub fn open(rt: R, alloc: Global, folder: &str) -> Result<Real<R>, DeviceFault> {
+        let path = inside(alloc, folder, "lock").map_err(fault_of)?;
+        let lock = locked(&rt, path.as_str()).map_err(fault_of)?;
+        Real::with(rt, alloc, folder, Some(lock))
+    }
+
+    /// The folder at this path, which this process has locked, for other files than those of the device that locked it.
+    pub fn beside(rt: R, alloc: Global, folder: &str) -> Result<Real<R>, DeviceFault> {
+        Real::with(rt, alloc, folder, None)
+    }
+
     fn path(&self, path: &str) -> io::Result<String> {
         inside(self.alloc, self.folder.as_str(), path)
     }
 
-    // Creates the folder of a file.
+    // Creates the folder of a file, unless that is the device's own.
     fn create_home(&self, path: &str) -> io::Result<()> {
-        let Some(home) = Path::new(path).parent() else {
-            return Ok(());
-        };
-        create_folder(&self.rt, home.as_str())
+        match Path::new(path).parent() {
+            Some(home) if !home.as_str().is_empty() => {
+                create_folder(&self.rt, self.path(home.as_str())?.as_str())
+            }
+            _ => Ok(()),
+        }
+    }
+
+    // Of anything but a regular file that is an error, as it is of a link that leads nowhere.
+    fn len_in(&self, path: &str) -> io::Result<Option<u64>> {
+        let path = self.path(path)?;
+        if let Some(known) = found(regular(&self.rt, path.as_str()))? {
+            return Ok(Some(known.len()));
+        }
+        match found(fs::symlink_metadata(&self.rt, path.as_str()))? {
+            Some(_link) => Err(io::Error::from(ErrorKind::InvalidInput)),
+            None => Ok(None),
+        }
     }
 
     // No bytes of anything but a regular file, or of one that is longer.
@@ -101,7 +148,12 @@ impl<R: Files<File = File> + Drop> Real<R> {
         let path = String::from_str(self.alloc, path)?;
         let file = fs::open(&self.rt, whole.as_str())?;
         let len = known.len();
-        Ok(Some(Opened { path, file, len }))
+        Ok(Some(Opened {
+            path,
+            whole,
+            file,
+            len,
+        }))
     }
 
     // Nothing if it is not a regular file, or is shorter.
@@ -129,19 +181,33 @@ impl<R: Files<File = File> + Drop> Real<R> {
         Ok(Some(bytes))
     }
 
-    // Closes the files that stay open, since a path may lead to another file from now on.
-    fn close(&mut self) {
+    // Closes the file that is read, and the one that is appended to if it is at this path, since paths may lead to other files from
+    // now on. Other devices replace files that this one reads, and none that it goes on appending to.
+    fn close(&mut self, path: &str) {
         self.reading.set(None);
-        self.appending = None;
+        let _closed = taken(&mut self.appending, path);
+    }
+
+    // Names the file that is appended to by its new path, if it was at the old one.
+    fn follow(&mut self, from: &str, path: String, whole: String) {
+        if let Some(opened) = taken(&mut self.appending, from) {
+            let Opened { file, len, .. } = opened;
+            self.appending = Some(Opened {
+                path,
+                whole,
+                file,
+                len,
+            });
+        }
     }
 
     // Opens a file to write it anew or after its end. Creates its folder if somebody removed that.
     fn open_to_write(&self, path: &str, is_append: bool) -> io::Result<File> {
-        let path = self.path(path)?;
-        match open_file(&self.rt, path.as_str(), is_append) {
+        let whole = self.path(path)?;
+        match open_file(&self.rt, whole.as_str(), is_append) {
             Err(error) if is_missing(&error) => {
-                self.create_home(path.as_str())?;
-                open_file(&self.rt, path.as_str(), is_append)
+                self.create_home(path)?;
+                open_file(&self.rt, whole.as_str(), is_append)
             }
             opened => opened,
         }
@@ -150,39 +216,51 @@ impl<R: Files<File = File> + Drop> Real<R> {
     // Opens a regular file to write after its end, or creates it.
     fn open_to_append(&self, path: &str) -> io::Result<Opened> {
         let whole = self.path(path)?;
-        found(regular(&self.rt, whole.as_str()))?;
+        let len = match found(regular(&self.rt, whole.as_str()))? {
+            Some(known) => known.len(),
+            None => 0,
+        };
         let file = self.open_to_write(path, true)?;
         let path = String::from_str(self.alloc, path)?;
-        Ok(Opened { path, file, len: 0 })
+        Ok(Opened {
+            path,
+            whole,
+            file,
+            len,
+        })
     }
 
-    fn append_in(&mut self, path: &str, bytes: &[u8]) -> io::Result<()> {
+    // A file stays open if its bytes were appended, or if there was no room and it is as it was.
+    fn append_in(&mut self, path: &str, bytes: &[u8]) -> Result<(), DeviceFault> {
         let mut opened = match taken(&mut self.appending, path) {
             Some(opened) => opened,
-            None => self.open_to_append(path)?,
+            None => self.open_to_append(path).map_err(unopened)?,
         };
-        opened.file.write_all(bytes)?;
-        self.appending = Some(opened);
-        Ok(())
+        let appended = opened.append(bytes).map_err(fault_of);
+        if let Ok(()) | Err(DeviceFault::Room) = appended {
+            self.appending = Some(opened);
+        }
+        appended
     }
 
-    fn write_in(&self, path: &str, bytes: &[u8]) -> io::Result<()> {
-        self.open_to_write(path, false)?.write_all(bytes)
+    fn write_in(&self, path: &str, bytes: &[u8]) -> Result<(), DeviceFault> {
+        let mut file = self.open_to_write(path, false).map_err(unopened)?;
+        file.write_all(bytes).map_err(unwritten)
     }
 
     fn rename_in(&self, from: &str, to: &str) -> io::Result<bool> {
-        let from = self.path(from)?;
-        let to = self.path(to)?;
-        match fs::rename(&self.rt, from.as_str(), to.as_str()) {
+        let old = self.path(from)?;
+        let new = self.path(to)?;
+        match fs::rename(&self.rt, old.as_str(), new.as_str()) {
             Ok(()) => return Ok(true),
             Err(error) if is_missing(&error) => {}
             Err(error) => return Err(error),
         }
-        if found(fs::symlink_metadata(&self.rt, from.as_str()))?.is_none() {
+        if found(fs::symlink_metadata(&self.rt, old.as_str()))?.is_none() {
             return Ok(false);
         }
-        self.create_home(to.as_str())?;
-        fs::rename(&self.rt, from.as_str(), to.as_str())?;
+        self.create_home(to)?;
+        fs::rename(&self.rt, old.as_str(), new.as_str())?;
         Ok(true)
     }
 
@@ -206,14 +284,13 @@ impl<R: Files<File = File> + Drop> Real<R> {
         match self.opened(path, is_folder) {
             Ok(Some(file)) => Ok(file),
             Ok(None) => Err(DeviceFault::Missing),
-            Err(error) => Err(untried(&error)),
+            Err(error) => Err(unopened(error)),
         }
     }
 
-    // Whether the file that is appended to is the one at its path.
-    fn is_at(&self, path: &str, appended: &Opened) -> io::Result<bool> {
-        let path = self.path(path)?;
-        match found(fs::metadata(&self.rt, path.as_str()))? {
+    // Whether the file that is appended to is the one at its path. It takes no memory.
+    fn is_in_place(&self, appended: &Opened) -> io::Result<bool> {
+        match found(fs::metadata(&self.rt, appended.whole.as_str()))? {
             Some(there) => appended.is_at(there),
             None => Ok(false),
         }
@@ -221,20 +298,12 @@ impl<R: Files<File = File> + Drop> Real<R> {
 
     // Syncs the file that is appended to, if it is the one at its path, through the handle that wrote to it: that one is told of
     // each error.
-    fn sync_appended(&self, path: &str, appended: &Opened) -> Result<(), DeviceFault> {
-        match self.is_at(path, appended) {
+    fn sync_appended(&self, appended: &Opened) -> Result<(), DeviceFault> {
+        match self.is_in_place(appended) {
             Ok(true) => synced(appended.file.sync_data()),
             Ok(false) => Err(DeviceFault::Device),
-            Err(error) => Err(untried(&error)),
+            Err(error) => Err(unopened(error)),
         }
-    }
-}
-
-// Why what is to be synced could not be looked at.
-fn untried(error: &io::Error) -> DeviceFault {
-    match error.kind() {
-        ErrorKind::OutOfMemory => DeviceFault::Memory,
-        _ => DeviceFault::Unopened,
     }
 }
 
@@ -272,6 +341,10 @@ impl<R: Files<File = File> + AllocGlobal + Clone + Drop> Device for Real<R> {
         found(self.read_in(alloc, path, most)).map_err(fault_of)
     }
 
+    fn len(&self, path: &str) -> Result<Option<u64>, DeviceFault> {
+        self.len_in(path).map_err(fault_of)
+    }
+
     fn read_part(
         &self,
         alloc: Global,
@@ -286,21 +359,27 @@ impl<R: Files<File = File> + AllocGlobal + Clone + Drop> Device for Real<R> {
     }
 
     fn write(&mut self, path: &str, bytes: &[u8]) -> Result<(), DeviceFault> {
-        self.close();
-        self.write_in(path, bytes).map_err(fault_of)
+        self.close(path);
+        self.write_in(path, bytes)
     }
 
     fn append(&mut self, path: &str, bytes: &[u8]) -> Result<(), DeviceFault> {
-        self.append_in(path, bytes).map_err(fault_of)
+        self.append_in(path, bytes)
     }
 
     fn rename(&mut self, from: &str, to: &str) -> Result<bool, DeviceFault> {
-        self.close();
-        self.rename_in(from, to).map_err(fault_of)
+        let path = String::from_str(self.alloc, to)?;
+        let whole = self.path(to).map_err(fault_of)?;
+        self.close(to);
+        let was_there = self.rename_in(from, to).map_err(fault_of)?;
+        if was_there {
+            self.follow(from, path, whole);
+        }
+        Ok(was_there)
     }
 
     fn remove(&mut self, path: &str) -> Result<(), DeviceFault> {
-        self.close();
+        self.close(path);
         self.remove_in(path).map_err(fault_of)
     }
 
@@ -310,7 +389,7 @@ impl<R: Files<File = File> + AllocGlobal + Clone + Drop> Device for Real<R> {
 
     fn sync_file(&mut self, path: &str) -> Result<(), DeviceFault> {
         if let Some(appended) = taken(&mut self.appending, path) {
-            let answer = self.sync_appended(path, &appended);
+            let answer = self.sync_appended(&appended);
             self.appending = Some(appended);
             return answer;
         }

@@ -1,9 +1,7 @@
-ghost use Rattle.std.specs.Prelude.{◌≡◌, ℕ, List, Option, Some, None, OnOk};
+ghost use Rattle.std.specs.Prelude.{◌≡◌, ℕ, List, Option, Some, OnOk};
 ghost use Rattle.std.specs.Io.KnownBytes.{Appends};
 
-use std::fs::File;
 use std::io;
-use std::io::Write;
 
 /// Takes bytes, and does nothing but append them.
 pub trait Sink {
@@ -32,18 +30,5 @@ impl Sink for Vec<u8> {
     fn append(&mut self, bytes: &[u8]) -> io::Result<()> {
         self.extend_from_slice(bytes)?;
         Ok(())
-    }
-}
-
-// Nothing is known of a real file: neither its bytes, nor what else was done to its device.
-impl Sink for File {
-    ghost Rest = { Unit {0} };
-
-    ghost contents = { λ file. None };
-
-    ghost rest = { λ file. tt };
-
-    fn append(&mut self, bytes: &[u8]) -> io::Result<()> {
-        self.write_all(bytes)
     }
 }

@@ -18,6 +18,14 @@ pub(crate) fn is_missing(error: &io::Error) -> bool {
     matches!(error.kind(), ErrorKind::NotFound | ErrorKind::NotADirectory)
 }
 
+/// Whether there was no room.
+pub(crate) fn lacks_room(error: &io::Error) -> bool {
+    matches!(
+        error.kind(),
+        ErrorKind::StorageFull | ErrorKind::QuotaExceeded
+    )
+}
+
 /// The answer, or `None` if the file does not exist or its parent is not a folder.
 pub fn found<T: Drop>(answer: io::Result<T>) -> io::Result<Option<T>>
     ensures { IfOk answer (λ value. result ≡ Ok (Some value)) }

@@ -12,7 +12,7 @@ use Rattle.git_name.specs.Same.{same_name}
 use Rattle.git_name.proofs.HashMaps.{one_name}
 use Rattle.devices.specs.Device.{Files, Effect, Past, Does, Wrote, Added, Moved, Removed, SyncedFile, SyncedFolder, FailedFile, FailedFolder, Untried, files_after, files_of, names_in_folder, with_effect}
 use Rattle.devices.specs.declared.device.DeviceFault.{DeviceFault}
-use Rattle.devices.specs.declared.device.DeviceFault.TheVariants.{Device, Unopened, Missing, Memory}
+use Rattle.devices.specs.declared.device.DeviceFault.TheVariants.{Device, Unopened, Missing, Memory, Room}
 use Rattle.folder_store.specs.Place.{place_of}
 use Rattle.folder_store.specs.Synced.{IsSync, OnlySyncs, home_at, HasNone, IsHomeSynced, SyncsHome, failed_after, first_of, HasOnlySyncs, IsMarked, SyncsFiles, SyncsHomes, SyncsBoth, AreSynced}
 
@@ -239,6 +239,7 @@ untried_err before after (Err Device) fault old new is noted unfailed untried = 
 untried_err before after (Err Unopened) fault old new is noted unfailed untried = untried (λ same. cc)
 untried_err before after (Err Missing) fault old new is noted unfailed untried = untried (λ same. cc)
 untried_err before after (Err Memory) fault old new is noted unfailed untried = untried (λ same. cc)
+untried_err before after (Err Room) fault old new is noted unfailed untried = untried (λ same. cc)
 
 -- the name that was taken out is the last one
 at_end : (left : List (List ℕ)) (x : List ℕ) → slice_get (left ++ x ∷ []) (length left) ≡ Some x
@@ -262,6 +263,7 @@ only_sync before after sync is_sync (Err Device) old new noted unfailed does unt
 only_sync before after sync is_sync (Err Unopened) old new noted unfailed does untried = ([], only_none old new (untried (λ same. cc)))
 only_sync before after sync is_sync (Err Missing) old new noted unfailed does untried = ([], only_none old new (untried (λ same. cc)))
 only_sync before after sync is_sync (Err Memory) old new noted unfailed does untried = ([], only_none old new (untried (λ same. cc)))
+only_sync before after sync is_sync (Err Room) old new noted unfailed does untried = ([], only_none old new (untried (λ same. cc)))
 
 pub no_syncs : (old new : Past) → new ≡ old → HasOnlySyncs old new
 no_syncs old new is = ([], only_none old new is)
@@ -276,6 +278,7 @@ unfailed_err before after (Err Device) noted unfailed = absurd (cc (noted, unfai
 unfailed_err before after (Err Unopened) noted unfailed = sym noted ∙ unfailed
 unfailed_err before after (Err Missing) noted unfailed = sym noted ∙ unfailed
 unfailed_err before after (Err Memory) noted unfailed = sym noted ∙ unfailed
+unfailed_err before after (Err Room) noted unfailed = sym noted ∙ unfailed
 
 -- files, and then folders
 pub goes_on : (noted left : List ℕ → Bool) (homes marked now : List Bool) (a b c : Past) → SyncsFiles noted left homes marked a b → SyncsHomes marked now b c → SyncsBoth noted left homes now a c

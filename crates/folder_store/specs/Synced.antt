@@ -4,7 +4,7 @@ use Rattle.std.specs.List.{Contains}
 use Rattle.std.specs.FinMap.{keys}
 use Rattle.devices.specs.Device.{Effect, Past, Does, Wrote, Added, Moved, Removed, SyncedFile, SyncedFolder, FailedFile, FailedFolder, files_of, names_in_folder, with_effect}
 use Rattle.devices.specs.declared.device.DeviceFault.{DeviceFault}
-use Rattle.devices.specs.declared.device.DeviceFault.TheVariants.{Device, Unopened, Missing, Memory}
+use Rattle.devices.specs.declared.device.DeviceFault.TheVariants.{Device, Unopened, Missing, Memory, Room}
 use Rattle.loose_store.specs.Files.{Files}
 use Rattle.folder_store.specs.Place.{home_with, place_of}
 
@@ -52,6 +52,7 @@ failed_after before (Err Device) = true
 failed_after before (Err Unopened) = before
 failed_after before (Err Missing) = before
 failed_after before (Err Memory) = before
+failed_after before (Err Room) = before
 
 -- the first byte of a name
 abbrev pub first_of : List ℕ → ℕ

@@ -1,5 +1,6 @@
 pub mod Examples
 pub mod FrameLemmas
+pub mod FrontLemmas
 pub mod LawLemmas
 pub mod LineLemmas
 pub mod ReadingLemmas

@@ -1,4 +1,5 @@
 ghost use Rattle.fork_frame.specs.Frame.{OneFrame, OneStream};
+ghost use Rattle.fork_frame.specs.Fronts.{FrontIsRead};
 ghost use Rattle.fork_frame.specs.Reply.{NoReplyIsLast, OneReply};
 
 /// The grammar of frames is unambiguous: bytes begin with at most one frame, and an input is one list
@@ -13,4 +14,9 @@ pub fn same_bytes_are_same_requests()
 pub fn same_bytes_are_same_replies()
     ensures reply { OneReply }
     ensures last { NoReplyIsLast }
+{}
+
+/// Of an input that is cut off after some frames, these are read, and then the first of those that followed.
+pub fn a_front_of_frames_is_read()
+    ensures { FrontIsRead }
 {}

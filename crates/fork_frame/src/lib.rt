@@ -18,7 +18,9 @@ mod text;
 pub use crate::asker::Asker;
 pub use crate::fault::{FrameFault, ReplyFault};
 pub use crate::frame::{Frame, Next, next_frame};
-pub use crate::laws::{same_bytes_are_same_replies, same_bytes_are_same_requests};
+pub use crate::laws::{
+    a_front_of_frames_is_read, same_bytes_are_same_replies, same_bytes_are_same_requests,
+};
 pub use crate::line::Line;
 pub use crate::reader::read_some;
 pub use crate::reply::{send_bad_frame, send_bytes, send_reply};

@@ -14,6 +14,7 @@ ghost use Rattle.fork_reach.specs.Reach.{is_between, is_reached, linked_names, p
 ghost use Rattle.fork_reach.specs.Source.{kind_in};
 ghost use Rattle.fork_ledger.specs.AllStaged.{MeetsAmong, StoresAmong, with_all_staged};
 ghost use Rattle.fork_ledger.specs.Private.{with_discarded, with_kept, with_published};
+ghost use Rattle.fork_ledger.specs.Retained.{Retains};
 ghost use Rattle.fork_ledger.specs.Store.{AsksStore, LeavesStore, Recalls};
 ghost use Rattle.fork_ledger.specs.Surveyed.{IsKnown};
 ghost use Rattle.fork_ledger.specs.Tenants.{at_tenant, private_of, shape_of};
@@ -23,7 +24,7 @@ ghost use Rattle.fork_push.specs.Push.{judged};
 ghost use Rattle.fork_push.specs.Verdict.{IfAccepted, IsAcceptable, TellsJudged, fault_of_verdict};
 ghost use Rattle.fork_host.specs.Bounds.{ReadsStore};
 ghost use Rattle.fork_host.specs.Sent.{sent_names};
-ghost use Rattle.std.specs.Prelude.{[], ℕ, List, Contains, Some, true};
+ghost use Rattle.std.specs.Prelude.{[], ℕ, List, Contains, Some, false, true};
 ghost use Rattle.std.specs.List.{AllByRecursion};
 
 use crate::both::Both;
@@ -264,6 +265,22 @@ impl<'a, S: LooseFiles> Own<'a, S> {
         ensures same { IsSame self.old self.new }
     {
         self.vault.keep_only(self.tenant, names);
+    }
+
+    // Drops the objects that the tenant sees and that are not reachable from these names. Returns `false`, and drops
+    // none, if the vault does not know all links on the way.
+    pub(crate) fn retain_reached(
+        &mut self,
+        alloc: Global,
+        roots: &[Name],
+    ) -> Result<bool, AllocError>
+        ensures retained { IfOk result (λ done. done ≡ true → Retains self.old.vault.now.honest self.old.tenant.now roots.now self.old.vault.now.tenants self.new.vault.now.tenants) }
+        ensures kept { IfOk result (λ done. done ≡ false → self.new.vault.now ≡ self.old.vault.now) }
+        ensures err { OnErr result (self.new.vault.now ≡ self.old.vault.now) }
+        ensures store { LeavesStore self.old.vault.now self.new.vault.now }
+        ensures same { IsSame self.old self.new }
+    {
+        self.vault.retain_reached(alloc, self.tenant, roots)
     }
 
     // The use of the visible objects, in bytes.

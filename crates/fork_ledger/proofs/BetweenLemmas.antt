@@ -15,7 +15,7 @@ use Rattle.git_commit.specs.Commit.{CommitValue}
 use Rattle.git_commit.specs.CommitIn.{commit_in}
 use Rattle.fork_reach.specs.ParentNames.{parents_in, parents_or_none}
 use Rattle.fork_reach.specs.History.{note_at, note_of_found, seconds_in, seconds_or_zero, time_in, time_or_zero}
-use Rattle.fork_reach.specs.Reach.{IsReached, Root, Next, is_between, is_reached, linked_names, links_of_found, parent_names, parents_of_found}
+use Rattle.fork_reach.specs.Reach.{IsReached, Root, Next, is_between, is_reached, links_of_found, parents_of_found}
 use Rattle.number_links.specs.Facts.{Learned, goes_from, nothing, parents_from, time_beside, told}
 use Rattle.number_links.specs.declared.along.Along.{Along}
 use Rattle.number_links.specs.declared.along.Along.TheVariants.{Links, Parents}
@@ -233,6 +233,20 @@ module _ (files : Files) (m : AllWords) (t : List ℕ) (links : NamedLinks) (alo
     back roots known _ (Next from q before leads there) =
         (let earlier = back roots known from before in
         Next from q earlier (subst (λ ns. Contains ns q) (sym (same_next from (word_there roots from earlier) (known from earlier))) leads) (same_keys files m t q ∙ there))
+
+    -- what some names reach, along known links or along links of the objects
+    pub reached_is : (roots : List (List ℕ)) → ((q : List ℕ) → IsLedTo words next roots q → Rests q) → (q : List ℕ) (b : Bool) → (b ≡ true → IsLedTo words next roots q) → (IsLedTo words next roots q → b ≡ true)
+        → b ≡ is_reached (names_along along objects) objects roots q
+    reached_is roots known q b only all = by (is_reached (names_along along objects) objects roots q) refl b refl
+      where
+        clash : {G : Type 0} (x : Bool) → x ≡ true → x ≡ false → G
+        clash x one other = (let differs : true ≡ false = sym one ∙ other in absurd (let wrong : ⊥ = cc in wrong))
+
+        by : (w : Bool) → is_reached (names_along along objects) objects roots q ≡ w → (c : Bool) → b ≡ c → c ≡ w
+        by true w true is = refl
+        by true w false is = clash b (all (back roots known q (reached_led_to (names_along along objects) objects roots q w))) is
+        by false w true is = clash (is_reached (names_along along objects) objects roots q) (led_to_reached (names_along along objects) objects roots q (forth roots known q (only is))) w
+        by false w false is = refl
 
     pub between_is : (wanted excluded : List (List ℕ)) → ((q : List ℕ) → IsMet words next wanted excluded q → Rests q)
         → (q : List ℕ) (b : Bool) → (b ≡ true → IsBetween words next wanted excluded q) → (IsBetween words next wanted excluded q → b ≡ true) → b ≡ is_between (names_along along objects) objects wanted excluded q

@@ -17,6 +17,7 @@ pub mod LookLemmas
 pub mod OwnLemmas
 pub mod RecallLemmas
 pub mod ReceivedLemmas
+pub mod RetainedLemmas
 pub mod SeenLemmas
 pub mod ShapeLemmas
 pub mod ShownLemmas

@@ -4,6 +4,7 @@ pub mod Harms
 pub mod Kept
 pub mod Led
 pub mod Private
+pub mod Retained
 pub mod Shown
 pub mod Store
 pub mod Surveyed

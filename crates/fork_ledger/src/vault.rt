@@ -20,6 +20,7 @@ ghost use Rattle.fork_ledger.specs.Checked.{WasAsked};
 ghost use Rattle.fork_ledger.specs.Harms.{AreFound};
 ghost use Rattle.fork_ledger.specs.Kept.{IsExact, TakesAway};
 ghost use Rattle.fork_ledger.specs.Private.{AreAlike, AreAmong, both_of, held_in, with_adopted, with_discarded, with_kept, with_published, with_staged};
+ghost use Rattle.fork_ledger.specs.Retained.{Retains};
 ghost use Rattle.fork_ledger.specs.Store.{AsksStore, HoldOne, IsOver, LeavesStore, Meets, MeetsHeld, Recalls, StoresAlone};
 ghost use Rattle.fork_ledger.specs.Surveyed.{IsKnown};
 ghost use Rattle.fork_ledger.specs.Swept.{IsAccounted};
@@ -414,6 +415,22 @@ impl<S: LooseFiles> Vault<S> {
         ensures store { LeavesStore self.old self.new }
     {
         self.holdings.keep_only(tenant, names);
+    }
+
+    /// Drops the objects that a tenant sees and that are not reachable from these names. Returns `false`, and drops none,
+    /// if the links of an object on the way are not known. Does not ask the store.
+    pub fn retain_reached(
+        &mut self,
+        alloc: Global,
+        tenant: &TenantName,
+        roots: &[Name],
+    ) -> Result<bool, AllocError>
+        ensures retained { IfOk result (λ done. done ≡ true → Retains self.old.honest tenant.now roots.now self.old.tenants self.new.tenants) }
+        ensures kept { IfOk result (λ done. done ≡ false → self.new ≡ self.old) }
+        ensures err { OnErr result (self.new ≡ self.old) }
+        ensures store { LeavesStore self.old self.new }
+    {
+        self.holdings.retain_reached(alloc, tenant, roots)
     }
 
     /// Whether the use of what tenant `to` sees, together with the objects with these names that tenant `from` sees,

@@ -40,6 +40,10 @@ none_added grants old = record {
   made = refl;
 }
 
+-- none were added to a host
+pub no_grants : (host : HostState) → AreGiven [] host host
+no_grants host = record { free = λ before grant behind parts. absurd (nothing_in before grant behind parts); trusted = λ trusted. trusted; shows = refl }
+
 pub one_added : (grants rest : List Grant) (grant : Grant) (first old new : World) → Adding grants (grant ∷ rest) first old → refusal_to_add old grant.tenant grant.limit ≡ None → new ≡ with_grant old grant → Adding grants rest first new
 one_added grants rest grant first old new so_far free made = record {
   done = so_far.done ++ grant ∷ [];

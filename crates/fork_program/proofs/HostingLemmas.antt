@@ -1,9 +1,10 @@
 -- The host that the given tenants were added to, and what comes of it.
-use Rattle.std.proofs.Common.{◌≡◌, ◌⊎◌, inl, inr, ℕ, Bool, true, false, List, Option, IfErr, OnErr, OnOk, Result, Ok, Err, is_some, refl, ◌∙◌}
+use Rattle.std.proofs.Common.{◌≡◌, ◌⊎◌, inl, inr, ℕ, Bool, true, false, List, [], Option, IfErr, OnErr, OnOk, Result, Ok, Err, is_some, refl, sym, subst, ◌∙◌}
 use Rattle.std.proofs.KnownBytes.{Keeps-refl}
 use Rattle.std.specs.FinMap.{empty}
 use Rattle.fork_command.specs.declared.hosting.Hosting.{Hosting}
 use Rattle.fork_host.specs.Shown.{HostState, Trusted, world_of}
+use Rattle.fork_program.proofs.GivenLemmas.{no_grants}
 use Rattle.fork_program.specs.Given.{AreGiven, AreUngiven}
 use Rattle.fork_program.specs.Keeping.{IsSaved, IsUntouched}
 use Rattle.fork_program.specs.Running.{IsBegun, IsHostOf, IsKeptHostOf, IsUnhosted, Ungiven}
@@ -31,6 +32,13 @@ new_host hosting begun first trusted shows given = record { begun = begun; added
 
 pub kept_host : (hosting : Hosting) (begun added first : HostState) → is_some hosting.dir ≡ true → AreGiven hosting.tenants.items begun added → IsSaved added first → IsHostOf hosting first
 kept_host hosting begun added first kept given saved = record { begun = begun; added = added; right = begun_kept hosting begun kept; given = given; unkept = λ none. absurd (some_dir (is_some hosting.dir) kept none); saved = saved }
+
+-- where no tenants are given, the host is as it was
+pub none_given : (hosting : Hosting) (begun : HostState) → is_some hosting.dir ≡ true → hosting.tenants.items ≡ [] → IsHostOf hosting begun
+none_given hosting begun kept none = kept_host hosting begun begun begun kept given (unsaved begun)
+  where
+    given : AreGiven hosting.tenants.items begun begun
+    given = subst (λ grants. AreGiven grants begun begun) (sym none) (no_grants begun)
 
 -- saved twice is saved
 saved_again : (old between new : HostState) → IsSaved old between → IsSaved between new → IsSaved old new

@@ -22,11 +22,12 @@ use Rattle.fork_program.specs.declared.fault.Fault.TheVariants.{NotThere, BelowU
 abbrev pub number_told : List ℕ → Option ℕ
 number_told text = option_and_then (λ parts. number_in parts.0) (split_once 32 text)
 
--- the text of this world was saved
+-- this is the text of a world
 abbrev pub IsTextOfWorld : World → List ℕ → Type 0
 IsTextOfWorld world text = IsStateText2 (states_of world) text
 
--- a host was saved with this tenant added, which sees nothing
+-- a host to which this tenant can be added, which then sees nothing, and the text of its states with it; that this was saved is
+-- in no clause
 pub record IsTenantAdded (grant : Grant) : Type 0 where
   pub host : HostState
   pub free : refusal_to_add (world_of host) grant.tenant grant.limit ≡ None
@@ -41,7 +42,8 @@ IsNotAdded grant fault = IsUnrenewed fault ⊎ ((host : HostState) × IsUnadded 
 abbrev pub IsUseOf : HostState → List ℕ → ℕ → Type 0
 IsUseOf host tenant used = Trusted host → (view : View) → get (world_of host) tenant ≡ Some view → used ≡ use_of view.objects
 
--- a host was saved with this limit for an existing tenant, whose objects use no more
+-- a host in which this tenant exists, whose objects use no more than this limit, and the text of its states with it; that this
+-- was saved is in no clause
 pub record IsLimitSet (grant : Grant) : Type 0 where
   pub host : HostState
   pub there : contains_key (world_of host) grant.tenant ≡ true
@@ -61,7 +63,7 @@ IsLimitRefused host grant _ = ⊥
 abbrev pub IsLimitUnset : Grant → Fault → Type 0
 IsLimitUnset grant fault = IsUnrenewed fault ⊎ ((host : HostState) × IsLimitRefused host grant fault)
 
--- a host was saved without this tenant, which existed
+-- a host in which this tenant exists, and the text of its states without it; that this was saved is in no clause
 pub record IsTenantRemoved (tenant : List ℕ) : Type 0 where
   pub host : HostState
   pub there : contains_key (world_of host) tenant ≡ true

@@ -73,7 +73,7 @@ IsUnchecked before after fault = IsUnopened fault × Keeps before after
 abbrev pub version_line : List ℕ
 version_line = codes "state 2\n"
 
--- this text of a host was saved
+-- the text of a host; that it was saved is in no clause
 pub record IsRenewed : Type 0 where
   pub host : HostState
   pub text : List ℕ

@@ -1,11 +1,15 @@
 pub mod Fault
 pub mod Hashing
+pub mod Journaling
 pub mod Given
 pub mod Changing
 pub mod Keeping
+pub mod Repeating
 pub mod Running
+pub mod Saving
 pub mod Serving
 pub mod Program
 pub mod Asked
 pub mod Causes
 pub mod UploadLog
+pub mod Synced

@@ -1,17 +1,19 @@
-ghost use Rattle.std.specs.Prelude.{◌≡◌, IfErr, IfOk, OnOk};
+ghost use Rattle.std.specs.Prelude.{◌≡◌, IfErr, IfOk};
 ghost use Rattle.fork_program.specs.Keeping.{IsSaved};
 
-use crate::draft::{Begun, Draft, closed, drafted};
+use crate::draft::Begun;
 use crate::fault::Fault;
-use crate::roomy::Roomy;
-use crate::saving::{Settled, number_of, put};
+use crate::kept_state::KeptState;
+use crate::restored::Restored;
+use crate::settling::number_of;
+use crate::state_device::journal_device;
 use crate::upload_log::{NotLogged, UploadLog};
 use crate::watching::is_in_place;
-use chained_log::LogWriter;
+use chained_log::{FileWriter, LogWriter};
+use devices::{Device, Real};
 use fork_host::Host;
 use fork_wire::Written;
-use git_name::Name;
-use host_folder::{Reserve, Watch};
+use host_folder::{Reserve, RoomyDevice, Watch};
 use loose_store::{FileFault, LooseFiles};
 use std::alloc::Global;
 use std::cell::Cell;
@@ -32,18 +34,16 @@ const MOST_COPIED: u64 = 16_384;
 pub struct Keep<'a, H> {
     pub(crate) rt: &'a H,
     pub(crate) dir: &'a str,
-    pub(crate) journal: Written<LogWriter<Roomy<File>>>,
-    // The journal's name, which is that of the state in the folder.
-    name: Name,
-    // How many bytes that state has.
-    len: u64,
+    pub(crate) journal: Written<LogWriter<FileWriter<RoomyDevice<Real<&'a H>>>>>,
+    // The state in the folder, whose name is the journal's too.
+    state: KeptState<RoomyDevice<Real<&'a H>>>,
     // How many bytes the open uploads had at the beginning of the log to which the journal refers, or have at its own.
     uploads: u64,
     // With fewer bytes the journal is not long, since a try to save the state at 1 MiB less had no result.
     again: u64,
     // The number of that log, 0 if there is none, and the log itself unless it could not be written.
     number: u64,
-    log: Option<UploadLog>,
+    log: Option<UploadLog<RoomyDevice<Real<&'a H>>>>,
     // Whether its journals are synced.
     pub(crate) syncs: bool,
     pub(crate) reserve: Reserve,
@@ -74,66 +74,59 @@ fn is_uploading<S: LooseFiles>(alloc: Global, host: &Host<S>) -> bool {
     }
 }
 
+// A journal of what is done from now on.
+fn written<J: Device + Drop>(
+    alloc: Global,
+    journal: LogWriter<FileWriter<J>>,
+    syncs: bool,
+) -> Result<Written<LogWriter<FileWriter<J>>>, Fault>
+    ensures cause { IfErr result (λ fault. fault ≡ Fault.NotSaved) }
+    ensures syncs { IfOk result (λ written. written.syncs ≡ syncs) }
+{
+    match Written::new(alloc, journal, syncs) {
+        Ok(written) => Ok(written),
+        Err(_) => Err(Fault::NotSaved),
+    }
+}
+
 impl<'a, H: Files<File = File> + AllocGlobal> Keep<'a, H> {
-    /// Saves the host's state in its folder, which has the state `standing`, and begins a journal after it.
-    /// After an `Err` the folder has its old state or the new one, and what belongs to that state. The reserve is
+    /// Begins a journal after the state that a host was restored of, if that is the host's own in the newest version, or else
+    /// after a state that is saved first, and gives the host. After an `Err` the folder has its old state or the new one, and what belongs to that state. The reserve is
     /// for this and all that is kept later. The watch is on the folder's lock since it was locked.
-    pub fn begin<S: LooseFiles>(
+    pub(crate) fn begin<S: LooseFiles + Drop>(
         rt: &'a H,
         alloc: Global,
         dir: &'a str,
-        standing: Name,
-        host: &mut Host<S>,
+        restored: Restored<S, Real<&'a H>>,
         syncs: bool,
         reserve: Reserve,
         watch: Watch,
-    ) -> Result<Keep<'a, H>, Fault>
+    ) -> Result<(Host<S>, Keep<'a, H>), Fault>
         ensures cause { IfErr result (λ fault. fault ≡ Fault.NotSaved) }
-        ensures syncs { IfOk result (λ keep. (keep.syncs ≡ syncs) × (keep.journal.syncs ≡ syncs)) }
-        ensures saved { IsSaved host.old host.new }
+        ensures syncs { IfOk result (λ begun. (begun.1.syncs ≡ syncs) × (begun.1.journal.syncs ≡ syncs)) }
+        ensures saved { IfOk result (λ begun. IsSaved restored.entry begun.0) }
     {
         if !is_in_place(rt, &watch) {
             return Err(Fault::NotSaved);
         }
-        let watch = Some(watch);
-        match drafted(rt, alloc, dir, standing, host, &reserve, None) {
-            Ok(Some(draft)) => Keep::over(rt, alloc, dir, host, None, draft, syncs, reserve, watch),
-            Ok(None) => Err(Fault::NotSaved),
-            Err(fault) => Err(fault),
-        }
-    }
-
-    // Puts a host's drafted state in its folder, which then keeps the host.
-    fn over<S: LooseFiles>(
-        rt: &'a H,
-        alloc: Global,
-        dir: &'a str,
-        host: &mut Host<S>,
-        standing: Option<Name>,
-        draft: Draft,
-        syncs: bool,
-        reserve: Reserve,
-        watch: Option<Watch>,
-    ) -> Result<Keep<'a, H>, Fault>
-        ensures cause { IfErr result (λ fault. fault ≡ Fault.NotSaved) }
-        ensures host { host.new ≡ host.old }
-        ensures syncs { IfOk result (λ keep. (keep.syncs ≡ syncs) × (keep.journal.syncs ≡ syncs)) }
-    {
-        let Settled { name, len, begun } = put(rt, alloc, dir, host, standing, draft, &reserve)?;
+        let Ok(shared) = reserve.share() else {
+            return Err(Fault::NotSaved);
+        };
+        let journals = journal_device(rt, alloc, dir, &reserve)?;
+        let (host, state, begun) = restored.begin(alloc, shared, journals)?;
         let Begun {
             journal,
             log,
             uploads,
         } = begun;
-        let Ok(journal) = Written::new(alloc, journal, syncs) else {
+        let Ok(journal) = written(alloc, journal, syncs) else {
             return Err(Fault::NotSaved);
         };
-        Ok(Keep {
+        let keep = Keep {
             rt,
             dir,
             journal,
-            name,
-            len,
+            state,
             uploads,
             again: 0,
             number: number_of(&log),
@@ -142,16 +135,17 @@ impl<'a, H: Files<File = File> + AllocGlobal> Keep<'a, H> {
             reserve,
             due: Cell::new(None),
             gap: Cell::new(1),
-            watch,
+            watch: Some(watch),
             next_look: Cell::new(None),
-        })
+        };
+        Ok((host, keep))
     }
 
     /// Saves the host's state at the end of serving, with an empty journal, and makes sweeps final. So no open
     /// upload survives the end. If serving ended because the folder could not be written, or if the folder is not where
     /// it was, it is left as it is, as after a kill. After an `Err` the folder has what it had, or the new state.
     pub fn end<S: LooseFiles>(
-        &self,
+        &mut self,
         alloc: Global,
         host: &mut Host<S>,
         served: &Result<(), Fault>,
@@ -168,22 +162,15 @@ impl<'a, H: Files<File = File> + AllocGlobal> Keep<'a, H> {
             let _forgotten = host.forget_removed(alloc);
             return Ok(());
         }
-        let drafted = closed(self.rt, alloc, self.dir, self.name, host, &self.reserve)?;
-        let Some(draft) = drafted else {
-            return Err(Fault::NotSaved);
-        };
-        match put(
-            self.rt,
-            alloc,
-            self.dir,
-            host,
-            Some(self.name),
-            draft,
-            &self.reserve,
-        ) {
-            Ok(_settled) => Ok(()),
-            Err(fault) => Err(fault),
-        }
+        let journals = self.journals(alloc)?;
+        self.state.close(alloc, host, journals)
+    }
+
+    // A device for the next journal, or for a log of uploads.
+    fn journals(&self, alloc: Global) -> Result<RoomyDevice<Real<&'a H>>, Fault>
+        ensures { IfErr result (λ fault. fault ≡ Fault.NotSaved) }
+    {
+        journal_device(self.rt, alloc, self.dir, &self.reserve)
     }
 
     // Whether a start would take long to repeat the journal: by its bytes, or by what its requests
@@ -191,7 +178,7 @@ impl<'a, H: Files<File = File> + AllocGlobal> Keep<'a, H> {
     fn is_long(&self) -> bool {
         let bytes = self.journal.bytes();
         bytes >= self.again
-            && (bytes > self.len.saturating_add(self.uploads).max(SPARE)
+            && (bytes > self.state.len().saturating_add(self.uploads).max(SPARE)
                 || self.journal.visits() > MOST_VISITED)
     }
 
@@ -201,7 +188,7 @@ impl<'a, H: Files<File = File> + AllocGlobal> Keep<'a, H> {
     }
 
     // Whether it takes less time to copy what the journal has of uploads than to begin a log anew.
-    fn is_copied(&self, log: &UploadLog) -> bool {
+    fn is_copied(&self, log: &UploadLog<RoomyDevice<Real<&'a H>>>) -> bool {
         !log.is_long()
             && self.journal.bytes() <= self.uploads
             && self.journal.frames() <= MOST_COPIED
@@ -212,7 +199,7 @@ impl<'a, H: Files<File = File> + AllocGlobal> Keep<'a, H> {
         &mut self,
         alloc: Global,
         host: &mut Host<S>,
-    ) -> Result<Option<UploadLog>, NotLogged>
+    ) -> Result<Option<UploadLog<RoomyDevice<Real<&'a H>>>>, NotLogged>
         ensures syncs { (self.new.journal ≡ self.old.journal) × (self.new.syncs ≡ self.old.syncs) }
         ensures saved { IsSaved host.old host.new }
     {
@@ -222,13 +209,16 @@ impl<'a, H: Files<File = File> + AllocGlobal> Keep<'a, H> {
         }
         if let Some(log) = log {
             if self.is_copied(&log) {
-                let log = log.go_on(self.rt, alloc, self.dir, self.name)?;
+                let log = self.state.copied_to(alloc, log)?;
                 return Ok(Some(log));
             }
         }
         // The other one: this journal still refers to its own.
         let number = if self.number == 1 { 2 } else { 1 };
-        let log = UploadLog::begin(self.rt, alloc, self.dir, number, host, &self.reserve)?;
+        let Ok(device) = self.journals(alloc) else {
+            return Err(NotLogged);
+        };
+        let log = UploadLog::begin(alloc, device, number, host)?;
         Ok(Some(log))
     }
 
@@ -266,41 +256,34 @@ impl<'a, H: Files<File = File> + AllocGlobal> Keep<'a, H> {
             Err(FileFault::Memory) => return Ok(()),
             Err(FileFault::Device) => return Err(Fault::NotSaved),
         }
-        let Ok(reserve) = self.reserve.share() else {
-            return Ok(());
-        };
         let Ok(log) = self.next_log(alloc, host) else {
             return Ok(());
         };
-        let drafted = drafted(
-            self.rt,
-            alloc,
-            self.dir,
-            self.name,
-            host,
-            &self.reserve,
-            log,
-        )?;
-        let Some(draft) = drafted else {
+        let Ok(journals) = self.journals(alloc) else {
             return Ok(());
         };
-        match Keep::over(
-            self.rt,
-            alloc,
-            self.dir,
-            host,
-            Some(self.name),
-            draft,
-            self.syncs,
-            reserve,
-            self.watch.take(),
-        ) {
-            Ok(keep) => {
-                *self = keep;
-                Ok(())
-            }
-            Err(fault) => Err(fault),
+        match self.state.save(alloc, host, journals, log)? {
+            Some(begun) => self.go_on(alloc, begun),
+            None => Ok(()),
         }
+    }
+
+    // Goes on with this journal, which was begun after a saving.
+    fn go_on(&mut self, alloc: Global, begun: Begun<RoomyDevice<Real<&'a H>>>) -> Result<(), Fault>
+        ensures cause { IfErr result (λ fault. fault ≡ Fault.NotSaved) }
+        ensures syncs { (self.old.journal.syncs ≡ self.old.syncs) → (self.new.journal.syncs ≡ self.old.syncs) × (self.new.syncs ≡ self.old.syncs) }
+    {
+        let Begun {
+            journal,
+            log,
+            uploads,
+        } = begun;
+        self.journal = written(alloc, journal, self.syncs)?;
+        self.uploads = uploads;
+        self.again = 0;
+        self.number = number_of(&log);
+        self.log = log;
+        Ok(())
     }
 
     /// Like `settle`, after a round of many connections: what was swept counts only if one of them ended.

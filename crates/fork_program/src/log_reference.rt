@@ -1,6 +1,7 @@
 // The line of a journal that refers to the log of open uploads.
-ghost use Rattle.std.specs.Prelude.{◌≡◌, ◌∷◌, ◌++◌, [], IfOk, IfSome, codes, decimal as spelled, string_bytes};
-ghost use Rattle.fork_program.specs.UploadLog.{reference_line};
+ghost use Rattle.std.specs.Prelude.{◌≡◌, ◌∷◌, ◌++◌, [], false, ℕ, IfOk, IfSome, List, None, OnOk, codes, decimal as spelled, string_bytes};
+ghost use Rattle.std.specs.Io.KnownBytes.{Consumes, Keeps};
+ghost use Rattle.fork_program.specs.UploadLog.{is_reference, reference_line};
 
 use git_name::{Name, decimal, split_once};
 use std::alloc::{AllocError, Global};
@@ -72,20 +73,33 @@ fn reference_in(line: &[u8]) -> Option<LogReference>
 }
 
 // Takes the bytes up to the next LF, and the LF.
-fn take_line<R: Read>(reader: &mut R, line: &mut Vec<u8>) -> io::Result<()> {
+fn take_line<R: Read>(reader: &mut R, line: &mut Vec<u8>) -> io::Result<()>
+    ensures { OnOk result ((more : List ℕ) × Consumes (R.remaining reader.old) (R.remaining reader.new) (more ++ 10 ∷ []) × (line.new.items ≡ line.old.items ++ more)) }
+{
     for _ in 0..LONGEST + 1 {
-        let mut byte = [0; 1];
-        reader.read_exact(&mut byte)?;
-        if byte == [b'\n'] {
+        let byte = take_byte(reader)?;
+        if byte == b'\n' {
             return Ok(());
         }
-        line.push(byte[0])?;
+        line.push(byte)?;
     }
     Err(io::Error::from(ErrorKind::InvalidData))
 }
 
+// Takes a byte.
+fn take_byte<R: Read>(reader: &mut R) -> io::Result<u8>
+    ensures { IfOk result (λ byte. Consumes (R.remaining reader.old) (R.remaining reader.new) (byte ∷ [])) }
+{
+    let mut byte = [0; 1];
+    reader.read_exact(&mut byte)?;
+    Ok(byte[0])
+}
+
 // Whether the next byte is the first one of the line. No piece of a log begins with it, for it would be too long.
-fn is_next<R: BufRead>(reader: &mut R) -> io::Result<bool> {
+fn is_next<R: BufRead>(reader: &mut R) -> io::Result<bool>
+    ensures none { IfOk result (λ is. is ≡ false → IfSome (R.remaining reader.old) (λ bytes. is_reference bytes ≡ false)) }
+    ensures bytes { Keeps (R.remaining reader.old) (R.remaining reader.new) }
+{
     Ok(reader.fill_buf()?.starts_with(b"u".as_slice()))
 }
 
@@ -93,7 +107,10 @@ fn is_next<R: BufRead>(reader: &mut R) -> io::Result<bool> {
 pub(crate) fn read_reference<R: BufRead>(
     alloc: Global,
     reader: &mut R,
-) -> io::Result<Option<LogReference>> {
+) -> io::Result<Option<LogReference>>
+    ensures none { IfOk result (λ found. found ≡ None → Keeps (R.remaining reader.old) (R.remaining reader.new) × IfSome (R.remaining reader.old) (λ bytes. is_reference bytes ≡ false)) }
+    ensures line { IfOk result (λ found. IfSome found (λ told. Consumes (R.remaining reader.old) (R.remaining reader.new) (reference_line told.number told.len told.sum))) }
+{
     if !is_next(reader)? {
         return Ok(None);
     }

@@ -36,6 +36,8 @@ pub struct Table {
     next: usize,
     // Whether more may be accepted at once.
     is_calling: bool,
+    // Whether the system had no file or no memory for the last one.
+    is_short: bool,
     // How many rounds ran since the system was last asked.
     rounds: u32,
     // When the last round ended.
@@ -66,6 +68,7 @@ impl Table {
             left: connections,
             next: 0,
             is_calling: true,
+            is_short: false,
             rounds: 0,
             tidied: None,
         })
@@ -92,6 +95,11 @@ impl Table {
         self.peers.len() < self.most || self.peers.iter().any(|peer| is_idle(peer))
     }
 
+    // Whether a waiting connection may be accepted at once.
+    fn may_accept(&self) -> bool {
+        self.is_calling && self.left > 0 && !self.is_short && self.has_place()
+    }
+
     // Whether there is something to do even without an event: a peer's time runs, or more are to be accepted.
     fn is_timed(&self) -> bool {
         if self.is_calling && self.left > 0 {
@@ -104,7 +112,7 @@ impl Table {
 
     // How long to wait for the system.
     fn wait(&self) -> Option<Duration> {
-        if self.has_turns() {
+        if self.has_turns() || self.may_accept() {
             return Some(Duration::ZERO);
         }
         if self.is_timed() {
@@ -204,6 +212,7 @@ impl Table {
 
     // Accepts the waiting connections, as long as there are places.
     fn accept(&mut self, alloc: Global, now: Instant) -> io::Result<()> {
+        self.is_short = false;
         for _ in 0..self.most {
             if !self.is_calling || self.left == 0 || !self.has_place() {
                 return Ok(());
@@ -223,6 +232,7 @@ impl Table {
                         continue;
                     }
                     if is_full(&error) {
+                        self.is_short = true;
                         return Ok(());
                     }
                     return Err(error);

@@ -4,6 +4,7 @@ ghost use Rattle.fork_program.specs.Keeping.{IsUnkept, IsUnopened};
 use crate::fault::Fault;
 use crate::objects::{Objects, open_objects};
 use crate::restoring::{has_state, restored_host};
+use crate::state_device::state_device;
 use crate::telling::of_store;
 use devices::Real;
 use either::{Left, Right};
@@ -62,8 +63,9 @@ fn pack<'a, H: Files<File = File> + AllocGlobal + RandomSource>(
         Ok(segments) => segments,
         Err(fault) => return Err(of_store(fault)),
     };
-    match restored_host(rt, alloc, dir, segments) {
-        Ok((_host, _name, _count)) => Ok(()),
+    let device = state_device(rt, alloc, dir)?;
+    match restored_host(alloc, device, segments) {
+        Ok((_restored, _count)) => Ok(()),
         Err(fault) => Err(fault),
     }
 }

@@ -1,117 +1,53 @@
-ghost use Rattle.std.specs.Prelude.{IfErr};
+ghost use Rattle.std.specs.Prelude.{IfErr, IfOk, IsTrue};
+ghost use Rattle.devices.specs.Device.{files_of};
 ghost use Rattle.fork_program.specs.Keeping.{IsUnkept, IsUnopened};
+ghost use Rattle.fork_program.specs.Repeating.{IsStart};
+ghost use Rattle.fork_program.specs.Saving.{IsUnfailed};
 
 use crate::fault::Fault;
 use crate::objects::{Guards, Objects, open_objects};
-use crate::replaying::replay;
-use crate::telling::{of_journal, of_load, of_state};
-use fork_host::{Host, OpenError};
+use crate::restored::{Restored, replayed, saved_host};
+use crate::state_device::state_device;
+use crate::telling::of_state;
+use devices::{Device, Real};
+use fork_host::Host;
 use git_name::Name;
-use host_folder::{has_other_journal, journal_name, open_state};
+use host_folder::{of_device, state_path};
 use loose_store::LooseFiles;
 use std::alloc::Global;
 use std::fs::{File, Files};
 use std::random::RandomSource;
 
-// A host without tenants over a folder.
-fn new_host<S: LooseFiles + Drop>(alloc: Global, files: S) -> Result<Host<S>, Fault>
-    ensures { IfErr result IsUnkept }
-{
-    match Host::new(alloc, files) {
-        Ok(host) => Ok(host),
-        Err(OpenError::Store) => Err(Fault::Store),
-        Err(OpenError::Memory) => Err(Fault::Memory),
-    }
-}
-
-// The host of a state, over the store that has its objects, and the name of the state's journal.
-fn saved_host<S: LooseFiles + Drop>(
+/// The host that a folder keeps, over this store of its objects, the state on this device, of which it is restored, and how many
+/// requests of the state's journal were repeated. If the folder keeps no host, it is one without tenants.
+pub(crate) fn restored_host<S: LooseFiles + Drop, D: Device + Drop>(
     alloc: Global,
-    state: Option<File>,
+    device: D,
     files: S,
-) -> Result<(Host<S>, Name), Fault>
-    ensures { IfErr result IsUnkept }
+) -> Result<(Restored<S, D>, u64), Fault>
+    requires unfailed { IsTrue (D.honest device) → IsUnfailed (D.past device) }
+    ensures start { IsTrue (D.honest device) → IsTrue (S.honest files) → IfOk result (λ found. IsStart (S.contents files) (files_of (D.past device)) found.0 found.1) }
+    ensures err { IfErr result IsUnkept }
 {
-    let Some(mut state) = state else {
-        return match new_host(alloc, files) {
-            Ok(host) => Ok((host, journal_name(b""))),
-            Err(fault) => Err(fault),
-        };
-    };
-    match fork_state::load(alloc, &mut state, files) {
-        Ok((host, name)) => Ok((host, name)),
-        Err(fault) => Err(of_load(fault)),
-    }
+    let loaded = saved_host(alloc, device, files)?;
+    replayed(alloc, loaded)
 }
 
-// Checks that the folder has no journal of a state other than this one, except what a kill leaves.
-fn has_no_other<H: Files<File = File> + AllocGlobal>(
-    rt: &H,
-    alloc: Global,
-    dir: &str,
-    name: Name,
-) -> Result<(), Fault>
-    ensures { IfErr result IsUnkept }
-{
-    match has_other_journal(&rt, alloc, dir, name) {
-        Ok(false) => Ok(()),
-        Ok(true) => Err(Fault::OtherJournal),
-        Err(fault) => Err(of_journal(fault)),
-    }
-}
-
-/// The host that a folder keeps, over this store of its objects, the name of the state's journal, and how
-/// many of its requests were repeated. If the folder keeps no host, it is one without tenants.
-pub(crate) fn restored_host<H: Files<File = File> + AllocGlobal, S: LooseFiles + Drop>(
-    rt: &H,
-    alloc: Global,
-    dir: &str,
-    files: S,
-) -> Result<(Host<S>, Name, u64), Fault>
-    ensures { IfErr result IsUnkept }
-{
-    let state = match open_state(rt, alloc, dir) {
-        Ok(state) => state,
-        Err(fault) => return Err(of_state(fault)),
-    };
-    let (mut host, name) = saved_host(alloc, state, files)?;
-    has_no_other(rt, alloc, dir, name)?;
-    match replay(rt, alloc, dir, name, &mut host) {
-        Ok(count) => Ok((host, name, count)),
-        Err(fault) => Err(fault),
-    }
-}
-
-// The same, over the folder's objects, and the folder's guards. The folder is created if it does not exist. While the host
-// lives, no other process can open it.
-fn opened_host<'a, H: Files<File = File> + AllocGlobal + RandomSource>(
-    rt: &'a H,
-    alloc: Global,
-    dir: &str,
-    packed: bool,
-) -> Result<(Host<Objects<'a, H>>, Name, u64, Guards), Fault>
-    ensures { IfErr result IsUnkept }
-{
-    let (files, guards) = open_objects(rt, alloc, dir, packed)?;
-    match restored_host(rt, alloc, dir, files) {
-        Ok((host, name, count)) => Ok((host, name, count, guards)),
-        Err(fault) => Err(fault),
-    }
-}
-
-/// The host that a folder keeps, the name of the state's journal, and the folder's guards. If the folder keeps no
+/// The host that a folder keeps, the state that it is restored of, and the folder's guards. If the folder keeps no
 /// host, it is one without tenants, whose objects are packed if that is asked for. The folder is created if it does not
 /// exist. While the host lives, no other process can open it.
-pub fn kept_host<'a, H: Files<File = File> + AllocGlobal + RandomSource>(
+pub(crate) fn kept_host<'a, H: Files<File = File> + AllocGlobal + RandomSource>(
     rt: &'a H,
     alloc: Global,
     dir: &str,
     packed: bool,
-) -> Result<(Host<Objects<'a, H>>, Name, Guards), Fault>
-    ensures { IfErr result IsUnkept }
+) -> Result<(Restored<Objects<'a, H>, Real<&'a H>>, Guards), Fault>
+    ensures err { IfErr result IsUnkept }
 {
-    match opened_host(rt, alloc, dir, packed) {
-        Ok((host, name, _, guards)) => Ok((host, name, guards)),
+    let (files, guards) = open_objects(rt, alloc, dir, packed)?;
+    let device = state_device(rt, alloc, dir)?;
+    match restored_host(alloc, device, files) {
+        Ok((restored, _)) => Ok((restored, guards)),
         Err(fault) => Err(fault),
     }
 }
@@ -124,8 +60,9 @@ pub(crate) fn has_state<H: Files<File = File> + AllocGlobal>(
 ) -> Result<(), Fault>
     ensures { IfErr result IsUnopened }
 {
-    match open_state(rt, alloc, dir) {
-        Ok(Some(_state)) => Ok(()),
+    let device = state_device(rt, alloc, dir)?;
+    match of_device(device.len(state_path())) {
+        Ok(Some(_len)) => Ok(()),
         Ok(None) => Err(Fault::NoState),
         Err(fault) => Err(of_state(fault)),
     }
@@ -134,7 +71,7 @@ pub(crate) fn has_state<H: Files<File = File> + AllocGlobal>(
 /// The host that a folder keeps, the name of its state, and how many requests of its journal were repeated. A folder without a
 /// state is left as it is, and one that does not exist is not created. While the host lives, no other
 /// process can open the folder.
-pub fn standing_host<'a, H: Files<File = File> + AllocGlobal + RandomSource>(
+pub(crate) fn standing_host<'a, H: Files<File = File> + AllocGlobal + RandomSource>(
     rt: &'a H,
     alloc: Global,
     dir: &str,
@@ -142,8 +79,13 @@ pub fn standing_host<'a, H: Files<File = File> + AllocGlobal + RandomSource>(
     ensures { IfErr result IsUnopened }
 {
     has_state(rt, alloc, dir)?;
-    match opened_host(rt, alloc, dir, false) {
-        Ok((host, name, count, _)) => Ok((host, name, count)),
+    let (files, _guards) = open_objects(rt, alloc, dir, false)?;
+    let device = state_device(rt, alloc, dir)?;
+    match restored_host(alloc, device, files) {
+        Ok((restored, count)) => {
+            let (host, name) = restored.into_named();
+            Ok((host, name, count))
+        }
         Err(fault) => Err(fault),
     }
 }

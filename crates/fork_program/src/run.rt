@@ -7,12 +7,13 @@ ghost use Rattle.fork_program.specs.Running.{EndsEarly, IsKeptHostOf, IsSessionO
 use crate::fault::Fault;
 use crate::hosts::{host_in_folder, host_in_memory};
 use crate::keep::Keep;
+use crate::restored::Restored;
 use crate::telling::of_session;
+use devices::Real;
 use fork_command::Hosting;
 use fork_frame::Ended;
 use fork_host::Host;
 use fork_wire::{Journal, NoJournal, serve_kept};
-use git_name::Name;
 use host_folder::{Reserve, Watch};
 use loose_store::LooseFiles;
 use std::alloc::Global;
@@ -41,36 +42,27 @@ fn session<S: LooseFiles, J: Journal, R: Read, W: Write>(
     }
 }
 
-// Serves one session of a host that a folder keeps. The host's state is saved before and after the session,
-// however that ended. Each request is kept before its reply is sent.
-fn keep_session<'x, H: Files<File = File> + AllocGlobal, S: LooseFiles, R: Read, W: Write>(
+// Serves one session of a host that a folder keeps. The host's state is saved before the session, unless it stands already, and
+// after it, as `Keep::end` says. Each request is kept before its reply is sent.
+fn keep_session<'x, H: Files<File = File> + AllocGlobal, S: LooseFiles + Drop, R: Read, W: Write>(
     rt: &'x H,
     alloc: Global,
     dir: &'x str,
-    standing: Name,
-    host: &mut Host<S>,
+    restored: Restored<S, Real<&'x H>>,
     reader: &mut R,
     writer: &mut W,
     syncs: bool,
     watch: Watch,
 ) -> Result<(), Fault>
-    ensures ok { (hosting : Hosting) → IsKeptHostOf hosting host.old → OnOk result (IsSessionOf hosting (R.remaining reader.old)
+    ensures ok { (hosting : Hosting) → IsKeptHostOf hosting restored.entry → OnOk result (IsSessionOf hosting (R.remaining reader.old)
         (W.contents writer.old) (W.contents writer.new) Clean) }
-    ensures err { (hosting : Hosting) → IsKeptHostOf hosting host.old → IfErr result (IsUnserved hosting (R.remaining reader.old)
+    ensures err { (hosting : Hosting) → IsKeptHostOf hosting restored.entry → IfErr result (IsUnserved hosting (R.remaining reader.old)
         (R.remaining reader.new) (W.contents writer.old) (W.contents writer.new)) }
 {
-    let mut keep = Keep::begin(
-        rt,
-        alloc,
-        dir,
-        standing,
-        host,
-        syncs,
-        Reserve::none(),
-        watch,
-    )?;
-    let served = session(host, alloc, &mut keep.journal, reader, writer);
-    let saved = keep.end(alloc, host, &served);
+    let begun = Keep::begin(rt, alloc, dir, restored, syncs, Reserve::none(), watch)?;
+    let (mut host, mut keep) = begun;
+    let served = session(&mut host, alloc, &mut keep.journal, reader, writer);
+    let saved = keep.end(alloc, &mut host, &served);
     match served {
         Ok(()) => saved,
         Err(fault) => Err(fault),
@@ -110,13 +102,12 @@ fn run_in_folder<'x, H: Files<File = File> + AllocGlobal + RandomSource, R: Read
         (W.contents writer.old) (W.contents writer.new)) }
 {
     let syncs = hosting.syncs;
-    let (mut host, standing, guards) = host_in_folder(rt, alloc, dir, hosting)?;
+    let (restored, guards) = host_in_folder(rt, alloc, dir, hosting)?;
     keep_session(
         rt,
         alloc,
         dir,
-        standing,
-        &mut host,
+        restored,
         reader,
         writer,
         syncs,

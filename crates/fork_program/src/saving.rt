@@ -1,12 +1,30 @@
-ghost use Rattle.std.specs.Prelude.{◌≡◌, ℕ, List, IfErr, IfOk, OnOk};
-ghost use Rattle.fork_program.specs.Keeping.{IsTextOf};
+ghost use Rattle.std.specs.Prelude.{◌≡◌, ◌≢◌, [], ℕ, IfErr, IfOk, IfSome, IsTrue, List, Ok, OnOk, Option, Result, Some, false, string_bytes, true};
+ghost use Rattle.devices.specs.Crash.{folder_has_failed};
+ghost use Rattle.devices.specs.Device.{Past};
+ghost use Rattle.devices.specs.Moments.{Throughout};
+ghost use Rattle.devices.specs.Parts.{DropsPart, IsSure, IsWritten};
+ghost use Rattle.devices.specs.Runs.{Runs};
+ghost use Rattle.devices.specs.declared.device.DeviceFault.{DeviceFault};
+ghost use Rattle.host_folder.specs.Appending.{bytes_at};
+ghost use Rattle.host_folder.specs.Journal.{journal_file, journal_folder, journal_part, naming};
+ghost use Rattle.host_folder.specs.State.{LeavesStateOr, PlacesPart, SettlesPart, part_file, state_file, syncing};
+ghost use Rattle.sha2.specs.Sha256.{sha256};
+ghost use Rattle.state_text.specs.Text.{state_text};
+ghost use Rattle.state_text.specs.declared.version.Version.TheVariants.{Two};
+ghost use Rattle.fork_program.specs.Journaling.{IsBegun, IsNamed};
+ghost use Rattle.fork_program.specs.Keeping.{IsNameOf, IsSaved, IsTextOf};
+ghost use Rattle.fork_program.specs.Saving.{IsStanding, LeavesStateOrOf, OnlySyncs};
 
-use crate::draft::{Begun, Draft, drafted, drafted_as};
+use crate::draft::{Begun, Draft, drafted, drafted_as, unnamed};
 use crate::fault::Fault;
-use crate::upload_log::{UploadLog, clear_logs};
+use crate::settling::{Placed, clear, place, placed_before, settle_others};
+use crate::state_device::state_device;
+use devices::Device;
 use fork_host::Host;
 use git_name::Name;
-use host_folder::{Reserve, clear_journals, drop_state, settle_journal, settle_state};
+use host_folder::{
+    a_settled_part_leaves_one_state, a_tried_part_leaves_the_state, drop_state, sync_state,
+};
 use loose_store::LooseFiles;
 use state_text::States;
 use std::alloc::Global;
@@ -14,100 +32,152 @@ use std::fs::{File, Files};
 
 // A drafted state that is in place, and its length.
 #[derive(Drop)]
-pub(crate) struct Settled {
+pub(crate) struct Settled<J> {
     pub(crate) name: Name,
     pub(crate) len: u64,
-    pub(crate) begun: Begun,
+    pub(crate) begun: Begun<J>,
 }
 
-// Syncs a log of open uploads, if there is one.
-fn sync_log<H: Files<File = File>>(
-    rt: &H,
-    dir: &str,
-    log: &mut Option<UploadLog>,
-) -> Result<(), Fault>
-    ensures { IfErr result (λ fault. fault ≡ Fault.NotSaved) }
+// Whether this state stands in the folder.
+fn stands(standing: Option<Name>, name: Name) -> bool
+    ensures same { result ≡ true → standing ≡ Some name }
+    ensures other { result ≡ false → standing ≢ Some name }
 {
-    let Some(log) = log else {
-        return Ok(());
-    };
-    match log.sync(rt, dir) {
-        Ok(()) => Ok(()),
-        Err(_) => Err(Fault::NotSaved),
+    match standing {
+        Some(standing) => standing == name,
+        None => false,
     }
 }
 
-// Settles a drafted state of this name: first the object files and the log of open uploads are synced, then the journal gets
-// the name of the new state, then the part becomes the state. If the folder already has that state, the part is removed.
-fn settle_all<H: Files<File = File> + AllocGlobal, S: LooseFiles>(
-    rt: &H,
+// Settles a drafted state of this name: first all that it needs, and then the state itself. After an `Err` the part is
+// removed, if it can be.
+fn settle_all<S: LooseFiles, D: Device, J: Device + Drop>(
     alloc: Global,
-    dir: &str,
     host: &mut Host<S>,
     standing: Option<Name>,
     name: Name,
-    begun: &mut Begun,
-    reserve: &Reserve,
-) -> Result<(), Fault>
+    begun: &mut Begun<J>,
+    device: &mut D,
+) -> Result<Placed, Fault>
     ensures cause { IfErr result (λ fault. fault ≡ Fault.NotSaved) }
     ensures host { host.new ≡ host.old }
+    ensures settled { IsTrue (D.honest device.old) → SettlesPart (D.past device.old) (D.past device.new) }
+    ensures placed { IsTrue (D.honest device.old) → standing ≢ Some name → OnOk result (PlacesPart (D.past device.old) (D.past device.new)) }
+    ensures dropped { IsTrue (D.honest device.old) → standing ≡ Some name → OnOk result (DropsPart part_file (D.past device.old) (D.past device.new)) }
+    ensures honest { D.honest device.new ≡ D.honest device.old }
+    ensures name { IfOk result (λ placed. placed.name ≡ name) }
+    ensures named { IsTrue (J.honest begun.old.journal.writer.device) → OnOk result (Runs {A = Unit {0}} {E = DeviceFault} (naming name) (J.past begun.old.journal.writer.device) (J.past begun.new.journal.writer.device) (Ok tt)) }
+    ensures path { OnOk result (string_bytes begun.new.journal.writer.path ≡ journal_file name) }
+    ensures journals { J.honest begun.new.journal.writer.device ≡ J.honest begun.old.journal.writer.device }
 {
-    let Ok(()) = host.sync(alloc) else {
+    let Ok(synced) = settle_others(alloc, host, name, begun) else {
+        drop_state(device);
         return Err(Fault::NotSaved);
     };
-    sync_log(rt, dir, &mut begun.log)?;
-    let journal = begun.journal.writer().writer();
-    let Ok(()) = settle_journal(rt, alloc, dir, name, journal) else {
+    let stands = stands(standing, name);
+    let Ok(placed) = place(device, stands, synced) else {
+        drop_state(device);
         return Err(Fault::NotSaved);
     };
-    if standing == Some(name) {
-        drop_state(rt, alloc, dir);
-        return Ok(());
-    }
-    match settle_state(rt, alloc, dir, reserve) {
-        Ok(()) => Ok(()),
-        Err(_) => Err(Fault::NotSaved),
-    }
-}
-
-// The number of a log, and 0 if there is none.
-pub(crate) fn number_of(log: &Option<UploadLog>) -> u64 {
-    match log {
-        Some(log) => log.reference().number,
-        None => 0,
-    }
+    Ok(placed)
 }
 
 // Puts a host's drafted state in its place. The object files and the log of open uploads are synced first. Then the journal
 // gets the name of the new state. Then the part becomes the state, unless the folder already has that state. So at each
 // moment the state in the folder has its journal, its log and its objects. A single rename, of the state or of the journal,
-// replaces the old ones. After an `Err` there is no part.
-pub(crate) fn put<H: Files<File = File> + AllocGlobal, S: LooseFiles>(
-    rt: &H,
+// replaces the old ones. After an `Err` the part is removed, if it can be. `standing` is the name of the state that the
+// folder is sure to have, or `None` if the drafted one is to be placed in any case.
+pub(crate) fn put<S: LooseFiles, D: Device, J: Device + Drop>(
     alloc: Global,
-    dir: &str,
     host: &mut Host<S>,
     standing: Option<Name>,
-    draft: Draft,
-    reserve: &Reserve,
-) -> Result<Settled, Fault>
+    draft: Draft<J>,
+    device: &mut D,
+) -> Result<Settled<J>, Fault>
+    requires standing { IfSome standing (λ name. IsTrue (D.honest device.old) → folder_has_failed (D.past device.old).effects [] ≡ false → IsStanding name (D.past device.old)) }
     ensures cause { IfErr result (λ fault. fault ≡ Fault.NotSaved) }
     ensures host { host.new ≡ host.old }
     ensures name { IfOk result (λ settled. settled.name ≡ draft.name) }
+    ensures each { (text : List ℕ) (before : Option (List ℕ)) (first : Past) → IsTrue (D.honest device.old) → IsSure first state_file before → IsWritten part_file text first (D.past device.old) → Throughout (LeavesStateOr before text) first (D.past device.new) }
+    ensures placed { (text : List ℕ) (first : Past) → IsTrue (D.honest device.old) → standing ≢ Some draft.name → IsWritten part_file text first (D.past device.old) → folder_has_failed first.effects [] ≡ false → OnOk result (IsSure (D.past device.new) state_file (Some text)) }
+    ensures stays { (text : List ℕ) (before : Option (List ℕ)) (first : Past) → IsTrue (D.honest device.old) → standing ≡ Some draft.name → IsSure first state_file before → IsWritten part_file text first (D.past device.old) → OnOk result (IsSure (D.past device.new) state_file before) }
+    ensures stands { (text : List ℕ) (first : Past) → IsTrue (D.honest device.old) → IsWritten part_file text first (D.past device.old) → draft.name ≡ sha256 text → folder_has_failed (D.past device.new).effects [] ≡ false → OnOk result (IsStanding draft.name (D.past device.new)) }
+    ensures honest { D.honest device.new ≡ D.honest device.old }
+    ensures journal { IsTrue (J.honest draft.begun.journal.writer.device) → IsBegun (J.past draft.begun.journal.writer.device) → IfOk result (λ settled. IsNamed settled.name (bytes_at journal_part (J.past draft.begun.journal.writer.device)) (J.past settled.begun.journal.writer.device)) }
+    ensures path { IfOk result (λ settled. string_bytes settled.begun.journal.writer.path ≡ journal_file settled.name) }
 {
+    a_settled_part_leaves_one_state();
+    a_tried_part_leaves_the_state();
     let Draft {
         name,
         len,
         mut begun,
     } = draft;
-    let Ok(()) = settle_all(rt, alloc, dir, host, standing, name, &mut begun, reserve) else {
-        drop_state(rt, alloc, dir);
+    let Ok(placed) = settle_all(alloc, host, standing, name, &mut begun, device) else {
         return Err(Fault::NotSaved);
     };
-    // What is left of older journals, of other logs and of swept objects does no harm. The next save removes it.
-    let _cleared = clear_journals(&rt, alloc, dir, name);
-    clear_logs(rt, alloc, dir, number_of(&begun.log));
-    let _forgotten = host.forget_removed(alloc);
+    clear(alloc, host, &placed, &mut begun);
+    Ok(Settled { name, len, begun })
+}
+
+/// Saves the host's state over a device, which is that of its folder, replacing the one there, whose name is `standing`, with a
+/// journal of its open uploads, over a device of that folder too.
+pub(crate) fn save_over<S: LooseFiles, D: Device, J: Device + Drop>(
+    alloc: Global,
+    standing: Name,
+    host: &mut Host<S>,
+    device: &mut D,
+    journals: J,
+) -> Result<Settled<J>, Fault>
+    ensures cause { IfErr result (λ fault. fault ≡ Fault.NotSaved) }
+    ensures saved { IsSaved host.old host.new }
+    ensures named { IfOk result (λ settled. IsNameOf host.old settled.name) }
+    ensures each { (before : Option (List ℕ)) → IsTrue (D.honest device.old) → IsSure (D.past device.old) state_file before → Throughout (LeavesStateOrOf before host.old) (D.past device.old) (D.past device.new) }
+    ensures sure { IsTrue (D.honest device.old) → folder_has_failed (D.past device.old).effects [] ≡ false → OnOk result ((text : List ℕ) × IsTextOf host.old text × IsSure (D.past device.new) state_file (Some text)) }
+    ensures stands { IsTrue (D.honest device.old) → folder_has_failed (D.past device.new).effects [] ≡ false → IfOk result (λ settled. IsStanding settled.name (D.past device.new)) }
+    ensures honest { D.honest device.new ≡ D.honest device.old }
+    ensures journal { IsTrue (J.honest journals) → folder_has_failed (J.past journals).effects journal_folder ≡ false → IfOk result (λ settled. (text : List ℕ) × IsNamed settled.name text (J.past settled.begun.journal.writer.device)) }
+    ensures path { IfOk result (λ settled. string_bytes settled.begun.journal.writer.path ≡ journal_file settled.name) }
+{
+    a_tried_part_leaves_the_state();
+    let drafted = drafted(alloc, standing, host, device, journals, None)?;
+    let Some(draft) = drafted else {
+        return Err(Fault::NotSaved);
+    };
+    put(alloc, host, None, draft, device)
+}
+
+/// Goes on with the state of this name and length in the folder, which is the host's own, so it is not written again: it is synced as it stands, and
+/// its journal is begun anew.
+pub(crate) fn resume<S: LooseFiles, D: Device, J: Device + Drop>(
+    alloc: Global,
+    name: Name,
+    len: u64,
+    host: &mut Host<S>,
+    device: &mut D,
+    journals: J,
+) -> Result<Settled<J>, Fault>
+    ensures cause { IfErr result (λ fault. fault ≡ Fault.NotSaved) }
+    ensures host { host.new ≡ host.old }
+    ensures name { IfOk result (λ settled. settled.name ≡ name) }
+    ensures len { IfOk result (λ settled. settled.len ≡ len) }
+    ensures tried { IsTrue (D.honest device.old) → OnlySyncs (D.past device.old) (D.past device.new) }
+    ensures synced { IsTrue (D.honest device.old) → OnOk result (Runs {A = Unit {0}} {E = DeviceFault} syncing (D.past device.old) (D.past device.new) (Ok tt)) }
+    ensures honest { D.honest device.new ≡ D.honest device.old }
+    ensures journal { IsTrue (J.honest journals) → folder_has_failed (J.past journals).effects journal_folder ≡ false → IfOk result (λ settled. (text : List ℕ) × IsNamed settled.name text (J.past settled.begun.journal.writer.device)) }
+    ensures path { IfOk result (λ settled. string_bytes settled.begun.journal.writer.path ≡ journal_file settled.name) }
+{
+    let Ok(()) = sync_state(device) else {
+        return Err(Fault::NotSaved);
+    };
+    let journal = unnamed(alloc, journals, name, name, None)?;
+    let mut begun = Begun {
+        journal,
+        log: None,
+        uploads: 0,
+    };
+    let synced = settle_others(alloc, host, name, &mut begun)?;
+    clear(alloc, host, &placed_before(synced), &mut begun);
     Ok(Settled { name, len, begun })
 }
 
@@ -123,12 +193,37 @@ pub fn save<H: Files<File = File> + AllocGlobal, S: LooseFiles>(
     ensures cause { IfErr result (λ fault. fault ≡ Fault.NotSaved) }
     ensures text { OnOk result ((text : List ℕ) × IsTextOf host.old text) }
 {
-    let reserve = Reserve::none();
-    let drafted = drafted(rt, alloc, dir, standing, host, &reserve, None)?;
+    let Ok(mut device) = state_device(rt, alloc, dir) else {
+        return Err(Fault::NotSaved);
+    };
+    let Ok(journals) = state_device(rt, alloc, dir) else {
+        return Err(Fault::NotSaved);
+    };
+    match save_over(alloc, standing, host, &mut device, journals) {
+        Ok(_settled) => Ok(()),
+        Err(fault) => Err(fault),
+    }
+}
+
+// Saves these states over a device, which is that of the folder.
+fn save_as_over<S: LooseFiles, D: Device, J: Device + Drop>(
+    alloc: Global,
+    standing: Name,
+    host: &mut Host<S>,
+    states: &States,
+    device: &mut D,
+    journals: J,
+) -> Result<(), Fault>
+    ensures cause { IfErr result (λ fault. fault ≡ Fault.NotSaved) }
+    ensures each { (before : Option (List ℕ)) → IsTrue (D.honest device.old) → IsSure (D.past device.old) state_file before → Throughout (LeavesStateOr before (state_text Two states.now)) (D.past device.old) (D.past device.new) }
+    ensures sure { IsTrue (D.honest device.old) → folder_has_failed (D.past device.old).effects [] ≡ false → OnOk result (IsSure (D.past device.new) state_file (Some (state_text Two states.now))) }
+{
+    a_tried_part_leaves_the_state();
+    let drafted = drafted_as(alloc, standing, host, states, device, journals, None)?;
     let Some(draft) = drafted else {
         return Err(Fault::NotSaved);
     };
-    match put(rt, alloc, dir, host, None, draft, &reserve) {
+    match put(alloc, host, None, draft, device) {
         Ok(_settled) => Ok(()),
         Err(fault) => Err(fault),
     }
@@ -146,13 +241,11 @@ pub fn save_as<H: Files<File = File> + AllocGlobal, S: LooseFiles>(
 ) -> Result<(), Fault>
     ensures cause { IfErr result (λ fault. fault ≡ Fault.NotSaved) }
 {
-    let reserve = Reserve::none();
-    let drafted = drafted_as(rt, alloc, dir, standing, host, states, &reserve, None)?;
-    let Some(draft) = drafted else {
+    let Ok(mut device) = state_device(rt, alloc, dir) else {
         return Err(Fault::NotSaved);
     };
-    match put(rt, alloc, dir, host, None, draft, &reserve) {
-        Ok(_settled) => Ok(()),
-        Err(fault) => Err(fault),
-    }
+    let Ok(journals) = state_device(rt, alloc, dir) else {
+        return Err(Fault::NotSaved);
+    };
+    save_as_over(alloc, standing, host, states, &mut device, journals)
 }

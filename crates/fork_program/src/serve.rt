@@ -10,10 +10,11 @@ use crate::keep::Keep;
 use crate::objects::Guards;
 use crate::one_after_another::{serve_connections, serve_kept_connections};
 use crate::reserving::reserved;
+use crate::restored::Restored;
 use crate::socket::{Listening, listen, show};
+use devices::Real;
 use fork_command::Hosting;
 use fork_host::Host;
-use git_name::Name;
 use loose_store::LooseFiles;
 use std::alloc::Global;
 use std::fs;
@@ -120,14 +121,17 @@ fn serve_host<H: Files<File = File> + Net + Clock, S: LooseFiles>(
 }
 
 // Serves connections to a host that a folder keeps, at a socket that was bound. The socket is moved to its
-// path after the state is saved. The state is saved once more after the last connection. Each request is kept
-// before its reply is sent.
-fn keep_connections<'x, H: Files<File = File> + Net + AllocGlobal + Clock + Eprint, S: LooseFiles>(
+// path after the state is saved, unless it stands already. After the last connection it is saved as `Keep::end` says. Each
+// request is kept before its reply is sent.
+fn keep_connections<
+    'x,
+    H: Files<File = File> + Net + AllocGlobal + Clock + Eprint,
+    S: LooseFiles + Drop,
+>(
     rt: &'x H,
     alloc: Global,
     dir: &'x str,
-    standing: Name,
-    host: &mut Host<S>,
+    restored: Restored<S, Real<&'x H>>,
     listening: Listening,
     socket: &str,
     connections: u32,
@@ -135,18 +139,19 @@ fn keep_connections<'x, H: Files<File = File> + Net + AllocGlobal + Clock + Epri
     syncs: bool,
     guards: Guards,
 ) -> Result<(), Fault>
-    ensures ok { (hosting : Hosting) → IsKeptHostOf hosting host.old → OnOk result (IsListened hosting at_once connections) }
-    ensures err { (hosting : Hosting) → IsKeptHostOf hosting host.old → IfErr result (IsUnlistened hosting at_once connections) }
+    ensures ok { (hosting : Hosting) → IsKeptHostOf hosting restored.entry → OnOk result (IsListened hosting at_once connections) }
+    ensures err { (hosting : Hosting) → IsKeptHostOf hosting restored.entry → IfErr result (IsUnlistened hosting at_once connections) }
 {
     let Guards { gate, watch } = guards;
     let reserve = reserved(rt, alloc, dir, gate);
-    let mut keep = Keep::begin(rt, alloc, dir, standing, host, syncs, reserve, watch)?;
+    let begun = Keep::begin(rt, alloc, dir, restored, syncs, reserve, watch)?;
+    let (mut host, mut keep) = begun;
     keep.look();
     show(rt, alloc, socket)?;
     let served = serve_kept_at(
         rt,
         alloc,
-        host,
+        &mut host,
         &mut keep,
         listening,
         socket,
@@ -154,7 +159,7 @@ fn keep_connections<'x, H: Files<File = File> + Net + AllocGlobal + Clock + Epri
         at_once,
     );
     keep.look();
-    let saved = keep.end(alloc, host, &served);
+    let saved = keep.end(alloc, &mut host, &served);
     keep.look();
     match served {
         Ok(()) => saved,
@@ -163,28 +168,30 @@ fn keep_connections<'x, H: Files<File = File> + Net + AllocGlobal + Clock + Epri
 }
 
 // Listens at a socket, and serves connections to a host that a folder keeps.
-fn serve_kept_host<'x, H: Files<File = File> + Net + AllocGlobal + Clock + Eprint, S: LooseFiles>(
+fn serve_kept_host<
+    'x,
+    H: Files<File = File> + Net + AllocGlobal + Clock + Eprint,
+    S: LooseFiles + Drop,
+>(
     rt: &'x H,
     alloc: Global,
     dir: &'x str,
-    standing: Name,
-    host: &mut Host<S>,
+    restored: Restored<S, Real<&'x H>>,
     socket: &str,
     connections: u32,
     at_once: Option<u32>,
     syncs: bool,
     guards: Guards,
 ) -> Result<(), Fault>
-    ensures ok { (hosting : Hosting) → IsKeptHostOf hosting host.old → OnOk result (IsListened hosting at_once connections) }
-    ensures err { (hosting : Hosting) → IsKeptHostOf hosting host.old → IfErr result (IsUnlistened hosting at_once connections) }
+    ensures ok { (hosting : Hosting) → IsKeptHostOf hosting restored.entry → OnOk result (IsListened hosting at_once connections) }
+    ensures err { (hosting : Hosting) → IsKeptHostOf hosting restored.entry → IfErr result (IsUnlistened hosting at_once connections) }
 {
     let listening = listen(rt, alloc, socket)?;
     keep_connections(
         rt,
         alloc,
         dir,
-        standing,
-        host,
+        restored,
         listening,
         socket,
         connections,
@@ -225,13 +232,12 @@ fn serve_in_folder<'x, H: Files<File = File> + Net + AllocGlobal + RandomSource 
     ensures err { IfErr result (IsUnlistened hosting.entry at_once connections) }
 {
     let syncs = hosting.syncs;
-    let (mut host, standing, guards) = host_in_folder(rt, alloc, dir, hosting)?;
+    let (restored, guards) = host_in_folder(rt, alloc, dir, hosting)?;
     serve_kept_host(
         rt,
         alloc,
         dir,
-        standing,
-        &mut host,
+        restored,
         socket,
         connections,
         at_once,

@@ -34,11 +34,12 @@ use Rattle.fork_model.specs.View.{View}
 use Rattle.fork_model.specs.World.{World}
 use Rattle.fork_model.specs.Answer.{without_upload}
 use Rattle.fork_model.proofs.EntryLemmas.{each_made, pair_exact, pair_total}
+use Rattle.state_text.specs.declared.version.Version.{Version}
 use Rattle.state_text.specs.Kept.{offer_kept, state_kept, states_of}
 use Rattle.state_text.specs.Offer.{Offer}
 use Rattle.state_text.specs.States.{States, TenantState}
 use Rattle.state_text.specs.Text.{IsStateText2}
-use Rattle.state_text.proofs.VersionLemmas.{one_value}
+use Rattle.state_text.proofs.VersionLemmas.{of_version, one_value}
 use Rattle.fork_host.specs.Restored.{AreOnStore, ByLimit, ByObject, ByTarget, IsStoreOrMemory, AllBefore, AreRefused, IsShownAgain, WantsMemory, WantsStore, first_astray, first_bad, is_bad_target, references_in, repositories_in, HasWorld}
 use Rattle.fork_host.specs.declared.restore_error.RestoreError.{RestoreError}
 use Rattle.fork_host.specs.Made.{made_shown}
@@ -270,7 +271,7 @@ shows world new files sound has shown =
     ∙ sym (entries_map_values without_upload world))
 
 -- its text tells of that world alone
-pub loads : (world new : World) (files : Files) (text : List ℕ) → IsSoundWorld world → HasWorld files world → IsStateText2 (states_of world) text → IsLoaded files text new → new ≡ without_uploads world
-loads world new files text sound has spelled loaded =
-    let same = one_value loaded.states (states_of world) text loaded.tells (inr spelled) in
+pub loads : (world new : World) (files : Files) (version : Version) (text : List ℕ) → IsSoundWorld world → HasWorld files world → IsStateText2 (states_of world) text → IsLoaded files version text new → new ≡ without_uploads world
+loads world new files version text sound has spelled loaded =
+    let same = one_value loaded.states (states_of world) text (of_version version loaded.states text loaded.tells) (inr spelled) in
     shows world new files sound has (subst (λ states. IsShownAgain files states new) same loaded.shown)

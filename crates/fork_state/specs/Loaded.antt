@@ -5,10 +5,11 @@ use Rattle.sha2.specs.Sha256.{sha256}
 use Rattle.loose_store.specs.Files.{Files}
 use Rattle.fork_model.specs.Sound.{IsSoundWorld}
 use Rattle.fork_model.specs.World.{World}
+use Rattle.state_text.specs.declared.version.Version.{Version}
 use Rattle.state_text.specs.Fault.{IsWrongLine}
 use Rattle.state_text.specs.Kept.{states_of}
 use Rattle.state_text.specs.States.{States}
-use Rattle.state_text.specs.Text.{IsStateText, IsStateText2}
+use Rattle.state_text.specs.Text.{IsStateText, IsStateText2, IsTextIn}
 use Rattle.fork_host.specs.Restored.{IsStoreOrMemory, AreRefused, IsShownAgain, HasWorld}
 use Rattle.fork_host.specs.Uploads.{without_uploads}
 use Rattle.fork_host.specs.declared.restore_error.RestoreError.{RestoreError}
@@ -29,12 +30,13 @@ restore_fault restore.Memory = Memory
 abbrev pub IsText : List ℕ → Type 0
 IsText text = (states : States) × IsStateText states text
 
--- all that the reader had is a state text, and this is its SHA-256 (FIPS 180-4, 6.2)
-pub record IsTextFrom (before after : Option (List ℕ)) (name : List ℕ) : Type 0 where
+-- all that the reader had is a state text in this version, and this is its SHA-256 (FIPS 180-4, 6.2)
+pub record IsTextFrom (before after : Option (List ℕ)) (name : List ℕ) (version : Version) : Type 0 where
   pub text : List ℕ
+  pub states : States
   pub consumed : Consumes before after text
   pub ends : IsAtEnd after
-  pub is_text : IsText text
+  pub is_text : IsTextIn version states text
   pub named : name ≡ sha256 text
 
 -- what a fault says about the text alone, over any store: its first wrong line, or that it is a state text; if the
@@ -62,18 +64,18 @@ IsLoadFault files text Store = IsRefusedText files text restore.Store
 IsLoadFault files text Read = ⊤
 IsLoadFault files text Memory = ⊤
 
--- the text is a state text, and the world is the one that it describes
-pub record IsLoaded (files : Files) (text : List ℕ) (world : World) : Type 0 where
+-- the text is a state text in this version, and the world is the one that it describes
+pub record IsLoaded (files : Files) (version : Version) (text : List ℕ) (world : World) : Type 0 where
   pub states : States
-  pub tells : IsStateText states text
+  pub tells : IsTextIn version states text
   pub shown : IsShownAgain files states world
 
--- all that the reader had is the text that was loaded, and this is its SHA-256
-pub record IsLoadedFrom (before after : Option (List ℕ)) (files : Files) (world : World) (name : List ℕ) : Type 0 where
+-- all that the reader had is the text that was loaded, in this version, and this is its SHA-256
+pub record IsLoadedFrom (before after : Option (List ℕ)) (files : Files) (world : World) (name : List ℕ) (version : Version) : Type 0 where
   pub text : List ℕ
   pub consumed : Consumes before after text
   pub ends : IsAtEnd after
-  pub loaded : IsLoaded files text world
+  pub loaded : IsLoaded files version text world
   pub named : name ≡ sha256 text
 
 -- if the store has the objects of a sound world, the world's states are refused only if memory runs out or the store fails
@@ -86,4 +88,4 @@ ShowsItsWorld = (world new : World) (files : Files) → IsSoundWorld world → H
 
 -- and what is loaded from the text that was saved is that world too, except its open uploads
 abbrev pub LoadsItsWorld : Type 0
-LoadsItsWorld = (world new : World) (files : Files) (text : List ℕ) → IsSoundWorld world → HasWorld files world → IsStateText2 (states_of world) text → IsLoaded files text new → new ≡ without_uploads world
+LoadsItsWorld = (world new : World) (files : Files) (version : Version) (text : List ℕ) → IsSoundWorld world → HasWorld files world → IsStateText2 (states_of world) text → IsLoaded files version text new → new ≡ without_uploads world

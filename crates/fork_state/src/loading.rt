@@ -7,35 +7,35 @@ use crate::fault::LoadFault;
 use fork_host::{Host, RestoreError};
 use git_name::Name;
 use loose_store::LooseFiles;
-use state_text::{StateFault, read};
+use state_text::{StateFault, Version, read};
 use std::alloc::Global;
 use std::io::Read;
 
-/// Loads the host that the text describes, over the store that holds its objects, and the SHA-256 of the text. The text may
-/// be of either version. It is read in pieces, to its end, and checked first, whatever the store does; what it describes is
-/// checked after that.
+/// Loads the host that the text describes, over the store that holds its objects, and gives the SHA-256 of the text, and its
+/// version, which may be either. The text is read in pieces, to its end, and checked first, whatever the store does; what it
+/// describes is checked after that.
 pub fn load<S: LooseFiles + Drop, R: Read>(
     alloc: Global,
     reader: &mut R,
     files: S,
-) -> Result<(Host<S>, Name), LoadFault>
-    ensures loaded { IsTrue (S.honest files) → IfOk result (λ found. IsLoadedFrom (R.remaining reader.old) (R.remaining reader.new) (S.contents files) (world_of found.0) found.1) }
+) -> Result<(Host<S>, Name, Version), LoadFault>
+    ensures loaded { IsTrue (S.honest files) → IfOk result (λ found. IsLoadedFrom (R.remaining reader.old) (R.remaining reader.new) (S.contents files) (world_of found.0) found.1 found.2) }
     ensures refused { IsTrue (S.honest files) → IfSome (R.remaining reader.old) (λ text. IfErr result (IsLoadFault (S.contents files) text)) }
 
     // Over any store.
-    ensures text { IfOk result (λ found. IsTextFrom (R.remaining reader.old) (R.remaining reader.new) found.1) }
+    ensures text { IfOk result (λ found. IsTextFrom (R.remaining reader.old) (R.remaining reader.new) found.1 found.2) }
     ensures judged { IfSome (R.remaining reader.old) (λ text. IfErr result (IsTextFault text)) }
     ensures trusted { IfOk result (λ found. IsTrue (S.honest files) → Trusted found.0) }
     ensures store { IfOk result (λ found. IsOver (S.contents files) (S.honest files) (S.failures files) found.0.vault) }
 {
-    let (states, name) = match read(alloc, reader) {
+    let (states, name, version) = match read(alloc, reader) {
         Ok(found) => found,
         Err(StateFault::Line(number)) => return Err(LoadFault::Line(number)),
         Err(StateFault::Read) => return Err(LoadFault::Read),
         Err(StateFault::Memory) => return Err(LoadFault::Memory),
     };
     match Host::restore(alloc, files, states) {
-        Ok(host) => Ok((host, name)),
+        Ok(host) => Ok((host, name, version)),
         Err(error) => Err(of_restore(error)),
     }
 }

@@ -1,5 +1,5 @@
 -- Frames that are served again, one by one.
-use Rattle.std.proofs.Common.{◌≡◌, false, Option, None, Some, ℕ, ◌+◌, List, [], ◌∷◌, ◌++◌, length, length-append, refl, arith}
+use Rattle.std.proofs.Common.{◌≡◌, ◌≤◌, ◌⊎◌, inl, inr, false, Option, None, Some, ℕ, ◌+◌, List, [], ◌∷◌, ◌++◌, length, length-append, refl, sym, subst, arith}
 use Rattle.std.specs.Prelude.{IfSome}
 use Rattle.std.specs.Io.KnownBytes.{Consumes, IsAtEnd}
 use Rattle.fork_model.specs.World.{AreFine}
@@ -60,3 +60,15 @@ clean_again old new input left count so_far end = ended_again old new input left
 
 pub bad_again : (old new : HostState) (input left : Option (List ℕ)) (count : ℕ) → Reserving old new input left count → IfSome left IsBad → IsServedAgain old new input count
 bad_again old new input left count so_far bad = ended_again old new input left count BadFrame so_far bad
+
+pub at_most_one : (n : ℕ) {A B : Type 0} → ((n ≡ 0) × A) ⊎ ((n ≡ 1) × B) → n ≤ 1
+at_most_one n (inl none) = omega (arith, none.0)
+at_most_one n (inr one) = omega (arith, one.0)
+
+-- a frame that was answered, or passed over, after so many
+pub one_or_none : (old mid new : HostState) (count more total : ℕ) (frame : Frame) → Reserving old mid None None count → IsFrame frame
+    → ((more ≡ 0) × (new ≡ mid)) ⊎ ((more ≡ 1) × IsAnsweredAgain mid new frame) → total ≡ count + more → Reserving old new None None total
+one_or_none old mid new count more total frame so_far right (inl passed) is =
+    subst (λ (n : ℕ). Reserving old new None None n) (omega (arith, passed.0, is)) (subst (λ (host : HostState). Reserving old host None None count) (sym passed.1) so_far)
+one_or_none old mid new count more total frame so_far right (inr answered) is =
+    subst (λ (n : ℕ). Reserving old new None None n) (omega (arith, answered.0, is)) (more_again old mid new None None None count frame so_far right tt answered.1)

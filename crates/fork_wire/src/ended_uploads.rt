@@ -1,5 +1,7 @@
+ghost use Rattle.std.specs.Prelude.{◌≡◌, ◌⊎◌, IfOk, None};
 ghost use Rattle.fork_model.specs.Sound.{IsOrderlyWorld, IsRightWorld};
 ghost use Rattle.fork_host.specs.Shown.{Trusted, world_of};
+ghost use Rattle.fork_wire.specs.Again.{IsAnsweredAgain, IsServedAgain};
 
 use crate::again::{AgainFault, answer_again};
 use fork_frame::{Asker, Frame, FrameFault, Next, next_frame};
@@ -91,6 +93,7 @@ pub fn reopen_uploads<S: LooseFiles, R: Read>(
     reader: &mut R,
     ended: &mut EndedUploads,
 ) -> Result<u64, AgainFault>
+    ensures again { IfOk result (IsServedAgain host.old host.new None) }
     ensures trusted { Trusted host.old → Trusted host.new }
     ensures orderly { IsOrderlyWorld (world_of host.new) }
     ensures right { Trusted host.old → IsRightWorld (world_of host.new) }
@@ -118,6 +121,7 @@ fn reopen_by<S: LooseFiles>(
     ended: &mut EndedUploads,
     frame: Frame,
 ) -> Result<u64, AgainFault>
+    ensures ok { IfOk result (λ count. ((count ≡ 0) × (host.new ≡ host.old)) ⊎ ((count ≡ 1) × IsAnsweredAgain host.old host.new frame)) }
     ensures trusted { Trusted host.old → Trusted host.new }
     ensures orderly { IsOrderlyWorld (world_of host.new) }
     ensures right { Trusted host.old → IsRightWorld (world_of host.new) }

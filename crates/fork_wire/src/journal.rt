@@ -3,10 +3,10 @@ ghost use Rattle.std.specs.Io.KnownBytes.{Appends, Keeps};
 ghost use Rattle.fork_frame.specs.Frame.{frame_bytes};
 
 use chained_log::SyncData;
+use devices::Sink;
 use fork_frame::{Frame, write_frame};
 use fork_request::MAX_PAYLOAD;
 use std::alloc::{AllocError, Global};
-use std::io::Write;
 
 /// A frame could not be kept, or was kept only in part, or what was kept could not be synced. After this,
 /// nothing more may be kept.
@@ -88,7 +88,7 @@ pub struct Written<W> {
 // Room for the longest frame: its line, LF, and the payload.
 const LONGEST_FRAME: usize = MAX_PAYLOAD + 41;
 
-impl<W: Write + Drop> Written<W> {
+impl<W: SyncData + Drop> Written<W> {
     /// Creates a journal that appends to what the writer has, and syncs the writer if `syncs`. All its memory
     /// is allocated here.
     pub fn new(alloc: Global, writer: W, syncs: bool) -> Result<Written<W>, AllocError>
@@ -152,7 +152,7 @@ impl<W: SyncData> Journal for Written<W> {
             self.is_cut = true;
             return Err(NotKept);
         };
-        let Ok(()) = self.writer.write_all(self.frame.as_slice()) else {
+        let Ok(()) = self.writer.append(self.frame.as_slice()) else {
             self.is_cut = true;
             return Err(NotKept);
         };

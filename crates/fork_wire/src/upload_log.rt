@@ -4,10 +4,11 @@ ghost use Rattle.fork_frame.specs.Frame.{frame_bytes};
 ghost use Rattle.fork_wire.specs.UploadLog.{AreCopied, end_frame, upload_frames};
 
 use crate::journal::NotKept;
+use devices::Sink;
 use fork_frame::{Asker, Frame, Next, next_frame, write_frame};
 use fork_request::{ByteString, Request, TenantName};
 use std::alloc::{AllocError, Global};
-use std::io::{Read, Write};
+use std::io::Read;
 
 // The frame after which a tenant has no open upload.
 fn end_of(alloc: Global, tenant: &TenantName) -> Result<Frame, AllocError>
@@ -21,28 +22,34 @@ fn end_of(alloc: Global, tenant: &TenantName) -> Result<Frame, AllocError>
     })
 }
 
-// Writes a frame at once.
-fn write_whole<W: Write>(writer: &mut W, room: &mut Vec<u8>, frame: &Frame) -> Result<(), NotKept>
-    ensures { OnOk result (Appends (W.contents writer.old) (W.contents writer.new) (frame_bytes frame.now)) }
+/// Appends a frame at once.
+pub(crate) fn write_whole<W: Sink>(
+    writer: &mut W,
+    room: &mut Vec<u8>,
+    frame: &Frame,
+) -> Result<(), NotKept>
+    ensures bytes { OnOk result (Appends (W.contents writer.old) (W.contents writer.new) (frame_bytes frame.now)) }
+    ensures rest { W.rest writer.new ≡ W.rest writer.old }
 {
     room.clear();
     let Ok(()) = write_frame(room, frame) else {
         return Err(NotKept);
     };
-    let Ok(()) = writer.write_all(room.as_slice()) else {
+    let Ok(()) = writer.append(room.as_slice()) else {
         return Err(NotKept);
     };
     Ok(())
 }
 
 // Writes the frame after which a tenant has no open upload.
-fn write_end<W: Write>(
+fn write_end<W: Sink>(
     writer: &mut W,
     alloc: Global,
     room: &mut Vec<u8>,
     tenant: &TenantName,
 ) -> Result<(), NotKept>
-    ensures { OnOk result (Appends (W.contents writer.old) (W.contents writer.new) (frame_bytes (end_frame tenant.now))) }
+    ensures bytes { OnOk result (Appends (W.contents writer.old) (W.contents writer.new) (frame_bytes (end_frame tenant.now))) }
+    ensures rest { W.rest writer.new ≡ W.rest writer.old }
 {
     let Ok(frame) = end_of(alloc, tenant) else {
         return Err(NotKept);
@@ -51,13 +58,14 @@ fn write_end<W: Write>(
 }
 
 // Writes what stands for a frame.
-fn copy_frame<W: Write>(
+fn copy_frame<W: Sink>(
     writer: &mut W,
     alloc: Global,
     room: &mut Vec<u8>,
     frame: &Frame,
 ) -> Result<(), NotKept>
-    ensures { OnOk result (Appends (W.contents writer.old) (W.contents writer.new) (flat_map frame_bytes (upload_frames frame.now))) }
+    ensures bytes { OnOk result (Appends (W.contents writer.old) (W.contents writer.new) (flat_map frame_bytes (upload_frames frame.now))) }
+    ensures rest { W.rest writer.new ≡ W.rest writer.old }
 {
     let Asker::Tenant(tenant) = &frame.asker else {
         return Ok(());
@@ -70,13 +78,14 @@ fn copy_frame<W: Write>(
 }
 
 /// Reads frames that a journal kept, up to their end, and writes those that open the uploads which were open then, after frames
-/// that open the uploads which were open before (`write_uploads`). It does not flush.
-pub fn copy_uploads<R: Read, W: Write>(
+/// that open the uploads which were open before (`write_uploads`).
+pub fn copy_uploads<R: Read, W: Sink>(
     alloc: Global,
     reader: &mut R,
     writer: &mut W,
 ) -> Result<(), NotKept>
-    ensures { OnOk result (IfSome (R.remaining reader.old) (λ came. AreCopied came (W.contents writer.old) (W.contents writer.new))) }
+    ensures copied { OnOk result (IfSome (R.remaining reader.old) (λ came. AreCopied came (W.contents writer.old) (W.contents writer.new))) }
+    ensures rest { W.rest writer.new ≡ W.rest writer.old }
 {
     let mut room = Vec::new(alloc);
     for _ in 0..u64::MAX {

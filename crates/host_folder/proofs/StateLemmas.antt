@@ -1,5 +1,5 @@
 -- The state and its part: their paths, and what a loss of power leaves of the state.
-use Rattle.std.proofs.Common.{◌≡◌, ◌≢◌, ◌⊎◌, inl, inr, ℕ, ◌||◌, Bool, true, false, List, [], ◌∷◌, Option, Some, nat_eq, refl, sym, ◌∙◌, ap}
+use Rattle.std.proofs.Common.{◌≡◌, ◌≢◌, ◌⊎◌, inl, inr, ℕ, false, List, [], ◌∷◌, Option, Some, nat_eq, refl, sym, ◌∙◌, ap}
 use Rattle.std.specs.Cmp.Lexicographic.{pointwise}
 use Rattle.std.specs.FinMap.{get}
 use Rattle.std.specs.List.{list_any}
@@ -48,3 +48,16 @@ either_left before text old mid new sure first then =
     which : (found : Option (List ℕ)) → (MayStand old state_file found ⊎ (found ≡ Some text)) → (found ≡ before) ⊎ (found ≡ Some text)
     which found (inl may) = inl (sure found may)
     which found (inr is) = inr is
+
+-- ---- a part that is dropped
+-- what might have been left before is left still
+pub tried : (q : List ℕ) (old mid new : Past) → Throughout (LeavesAs old q) old mid → Throughout (LeavesAs mid q) mid new → Throughout (LeavesAs old q) old new
+tried q old mid new one two =
+    throughout_then (LeavesAs old q) old mid new one
+    (throughout_map (LeavesAs mid q) (LeavesAs old q) (λ past leaves left may. throughout_end (LeavesAs old q) old mid one left (leaves left may)) mid new two)
+
+-- the same, once the part may have taken its place
+pub settled : (q text : List ℕ) (old mid at new : Past) → Throughout (LeavesAsOr old q text) mid at → Throughout (LeavesAs at q) at new → Throughout (LeavesAsOr old q text) mid new
+settled q text old mid at new one two =
+    throughout_then (LeavesAsOr old q text) mid at new one
+    (throughout_map (LeavesAs at q) (LeavesAsOr old q text) (λ past leaves left may. throughout_end (LeavesAsOr old q text) mid at one left (leaves left may)) at new two)

@@ -1,2 +1,4 @@
+pub mod Appending
 pub mod Journal
+pub mod OtherJournals
 pub mod State

@@ -1,24 +1,24 @@
-ghost use Rattle.std.specs.Prelude.{◌≡◌, IfOk, ◌++◌, codes, string_bytes};
-ghost use Rattle.hex.specs.Hex.{encode_lower};
+// Writes a journal, over the device of its host's folder.
+ghost use Rattle.std.specs.Prelude.{◌≡◌, IfOk, IsTrue, string_bytes, true};
+ghost use Rattle.devices.specs.Parts.{DropsPart};
+ghost use Rattle.devices.specs.Runs.{Runs};
 ghost use Rattle.sha2.specs.Sha256.{sha256};
-ghost use Rattle.host_folder.specs.Journal.{journal_called};
+ghost use Rattle.host_folder.specs.Journal.{BeginsJournal, SyncsNames, beginning, journal_file, journal_part as unnamed, naming, old_journal_file, syncing_names};
 
-use crate::journal_line::{line_of, name_called, read_line};
-use crate::part::{PART, settle, told};
-use crate::path::inside;
-use crate::reserve::Reserve;
-use devices::{create_file, create_folder, found, readable, regular, sync_folder};
+use crate::journal_line::line_of;
+use devices::{Device, DeviceFault};
 use git_name::Name;
-use loose_store::FileFault;
 use sha2::{Digest, Sha256};
 use std::alloc::{AllocError, Global};
-use std::fs::OpenFile;
-use std::io::Write;
-use std::rt::Files;
-use std::{fs, io};
 
 // The folder of journals, in a host's folder.
 pub(crate) const JOURNALS: &str = "journal";
+
+// The same on the device of a host's folder.
+pub(crate) const IN_JOURNALS: &str = "journal/";
+
+// The file of a journal that has no name yet, on that device.
+const PART_OF_JOURNALS: &str = "journal/part";
 
 /// The name of the journal that continues this state text: its SHA-256 (FIPS 180-4, 6.2).
 pub fn journal_name(state: &[u8]) -> Name
@@ -27,200 +27,95 @@ pub fn journal_name(state: &[u8]) -> Name
     Name::new(Sha256::digest(state))
 }
 
-// The path of the journal of this name in version 1, which has only frames.
-fn path_of_old(alloc: Global, folder: &str, name: Name) -> Result<String, AllocError>
-    ensures { IfOk result (λ path. string_bytes path ≡ folder.now ++ codes "/journal/" ++ encode_lower name) }
+/// The path of the journal of this name in version 1, on the device of its host's folder.
+pub fn old_journal_path(alloc: Global, name: Name) -> Result<String, AllocError>
+    ensures { IfOk result (λ path. string_bytes path ≡ old_journal_file name) }
 {
     let digits = hex::encode(alloc, name.as_bytes().as_slice())?;
-    let mut path = String::from_str(alloc, folder)?;
-    path.push_str("/journal/")?;
+    let mut path = String::from_str(alloc, "journal/")?;
     path.push_str(digits.as_str())?;
     Ok(path)
 }
 
-// The path of the journal of this name.
-fn path_of_journal(alloc: Global, folder: &str, name: Name) -> Result<String, AllocError>
-    ensures { IfOk result (λ path. string_bytes path ≡ (folder.now ++ codes "/journal/" ++ encode_lower name) ++ codes ".2") }
+/// The path of the journal of this name, on the device of its host's folder.
+pub fn journal_path(alloc: Global, name: Name) -> Result<String, AllocError>
+    ensures { IfOk result (λ path. string_bytes path ≡ journal_file name) }
 {
-    let mut path = path_of_old(alloc, folder, name)?;
+    let mut path = old_journal_path(alloc, name)?;
     path.push_str(".2")?;
     Ok(path)
 }
 
-fn open_regular<R: Files>(rt: &R, path: &str) -> io::Result<R::File> {
-    regular(rt, path)?;
-    fs::open(rt, path)
+/// The path of a journal that has no name yet, on that device. One is written at a time.
+pub fn journal_part() -> &'static str
+    ensures { result.now ≡ unnamed }
+{
+    PART_OF_JOURNALS
 }
 
-// Opens the journal of this name, if it exists, and reads the name in its first line.
-pub(crate) fn open_in<R: Files>(
-    rt: &R,
-    alloc: Global,
-    folder: &str,
-    name: Name,
-) -> io::Result<Option<(R::File, Name)>> {
-    let path = path_of_journal(alloc, folder, name)?;
-    let Some(mut file) = found(open_regular(rt, path.as_str()))? else {
-        return Ok(None);
-    };
-    let before = read_line(&mut file)?;
-    Ok(Some((file, before)))
+// Makes the folder of journals, by an empty part in it, and syncs the names in it.
+fn make_names<D: Device>(device: &mut D) -> Result<(), DeviceFault>
+    ensures effects { IsTrue (D.honest device.old) → Runs (syncing_names true) (D.past device.old) (D.past device.new) result }
+    ensures honest { D.honest device.new ≡ D.honest device.old }
+{
+    device.write(PART_OF_JOURNALS, b"".as_slice())?;
+    device.sync_folder(IN_JOURNALS)
 }
 
-fn open_after_line<R: Files>(
-    rt: &R,
-    alloc: Global,
-    folder: &str,
-    name: Name,
-) -> io::Result<Option<R::File>> {
-    match open_in(rt, alloc, folder, name)? {
-        Some((file, _)) => Ok(Some(file)),
-        None => Ok(None),
+// Syncs the names in the folder of journals, and makes it first if it is missing.
+fn sync_names<D: Device>(device: &mut D) -> Result<(), DeviceFault>
+    ensures effects { IsTrue (D.honest device.old) → SyncsNames (D.past device.old) (D.past device.new) result }
+    ensures honest { D.honest device.new ≡ D.honest device.old }
+{
+    match device.sync_folder(IN_JOURNALS) {
+        Err(DeviceFault::Missing) => make_names(device),
+        synced => synced,
     }
 }
 
-pub(crate) fn open_old_in<R: Files>(
-    rt: &R,
-    alloc: Global,
-    folder: &str,
-    name: Name,
-) -> io::Result<Option<R::File>> {
-    let path = path_of_old(alloc, folder, name)?;
-    found(open_regular(rt, path.as_str()))
-}
-
-fn begin_in<R: Files>(rt: &R, alloc: Global, folder: &str, standing: Name) -> io::Result<R::File> {
-    let home = inside(alloc, folder, JOURNALS)?;
-    let part = inside(alloc, home.as_str(), PART)?;
-    create_folder(rt, home.as_str())?;
-    let mut file = create_file(rt, part.as_str())?;
-    file.write_all(line_of(standing).as_slice())?;
-    sync_folder(rt, home.as_str())?;
-    Ok(file)
-}
-
-// The same, and once more if the reserve made room for it.
-fn begin_with<R: Files>(
-    rt: &R,
-    alloc: Global,
-    folder: &str,
-    standing: Name,
-    reserve: &Reserve,
-) -> io::Result<R::File> {
-    match begin_in(rt, alloc, folder, standing) {
-        Err(error) if reserve.gives_back(&error) => begin_in(rt, alloc, folder, standing),
-        begun => begun,
-    }
-}
-
-fn settle_in<R: Files>(
-    rt: &R,
-    alloc: Global,
-    folder: &str,
-    name: Name,
-    file: &R::File,
-) -> io::Result<()> {
-    let home = inside(alloc, folder, JOURNALS)?;
-    let part = inside(alloc, home.as_str(), PART)?;
-    let path = path_of_journal(alloc, folder, name)?;
-    settle(rt, file.sync_all(), part.as_str(), path.as_str())?;
-    sync_folder(rt, home.as_str())
-}
-
-// Whether a file called so is the journal of this name. One of version 1 is, unless one of version 2 exists.
-fn is_journal(called: &str, name: Name, is_there: bool) -> bool {
-    let called = called.as_bytes();
-    if is_there {
-        name_called(called) == Some(name)
-    } else {
-        Name::parse_hex(called) == Some(name)
-    }
-}
-
-// Whether a folder is at this path. The host makes no folder there.
-fn is_folder(rt: &impl Files, path: &str) -> io::Result<bool> {
-    match found(fs::symlink_metadata(rt, path))? {
-        Some(known) => Ok(known.is_dir()),
-        None => Ok(false),
-    }
-}
-
-fn clear_in<R: Files + AllocGlobal + Clone + Drop>(
-    rt: &R,
-    alloc: Global,
-    folder: &str,
-    name: Name,
-) -> io::Result<()> {
-    let home = inside(alloc, folder, JOURNALS)?;
-    let path = path_of_journal(alloc, folder, name)?;
-    let is_there = fs::exists(rt, path.as_str())?;
-    let Some(entries) = found(fs::read_dir(rt, home.as_str()))? else {
-        return Ok(());
-    };
-    for entry in entries {
-        if let Some(entry) = readable(entry)? {
-            let other = inside(alloc, home.as_str(), entry.file_name())?;
-            if !is_journal(entry.file_name(), name, is_there) && !is_folder(rt, other.as_str())? {
-                fs::remove_file(rt, other.as_str())?;
-            }
-        }
-    }
-    Ok(())
-}
-
-/// Opens the journal of this name in the folder at this path, if it exists, after its first line.
-pub fn open_journal<R: Files>(
-    rt: &R,
-    alloc: Global,
-    path: &str,
-    name: Name,
-) -> Result<Option<R::File>, FileFault> {
-    told(open_after_line(rt, alloc, path, name))
-}
-
-/// Opens the journal of this name in version 1, if it exists, at its beginning. It has only frames.
-pub fn open_old_journal<R: Files>(
-    rt: &R,
-    alloc: Global,
-    path: &str,
-    name: Name,
-) -> Result<Option<R::File>, FileFault> {
-    told(open_old_in(rt, alloc, path, name))
+// Writes the first line of a journal that has no name yet. Want of room for the line is `Room`, since it is appended to a part
+// that is empty.
+fn write_line<D: Device>(device: &mut D, standing: Name) -> Result<(), DeviceFault>
+    ensures effects { IsTrue (D.honest device.old) → Runs (beginning standing) (D.past device.old) (D.past device.new) result }
+    ensures honest { D.honest device.new ≡ D.honest device.old }
+{
+    device.write(PART_OF_JOURNALS, b"".as_slice())?;
+    device.append(PART_OF_JOURNALS, line_of(standing).as_slice())
 }
 
 /// Begins a journal that has no name yet, and writes its first line. `standing` is the name of the state's text in the
-/// folder. Syncs the names in the folder of journals, so that a journal that was cleared before does not come back
-/// beside one that does not mention it. If there is no room, the reserve is given back for it. This process must have
-/// the folder open (`Folder::open`).
-pub fn begin_journal<R: Files>(
-    rt: &R,
-    alloc: Global,
-    path: &str,
-    standing: Name,
-    reserve: &Reserve,
-) -> Result<R::File, FileFault> {
-    told(begin_with(rt, alloc, path, standing, reserve))
+/// folder. Syncs the names in the folder of journals first, so that a journal that was cleared before does not come back
+/// beside one that does not mention it. This process must have locked the folder.
+pub fn begin_journal<D: Device>(device: &mut D, standing: Name) -> Result<(), DeviceFault>
+    ensures effects { IsTrue (D.honest device.old) → BeginsJournal standing (D.past device.old) (D.past device.new) result }
+    ensures honest { D.honest device.new ≡ D.honest device.old }
+{
+    sync_names(device)?;
+    write_line(device, standing)
 }
 
 /// Syncs what was written of the new journal so far, and gives it its name, replacing one of that name. More can be
-/// written to it. After an `Err` it may or may not have its name.
-pub fn settle_journal<R: Files>(
-    rt: &R,
+/// appended to it. After an `Err` it may or may not have its name. Fails if there is no part.
+pub fn settle_journal<D: Device>(
     alloc: Global,
-    path: &str,
+    device: &mut D,
     name: Name,
-    file: &R::File,
-) -> Result<(), FileFault> {
-    told(settle_in(rt, alloc, path, name, file))
+) -> Result<(), DeviceFault>
+    ensures effects { IsTrue (D.honest device.old) → Runs (naming name) (D.past device.old) (D.past device.new) result }
+    ensures honest { D.honest device.new ≡ D.honest device.old }
+{
+    let path = journal_path(alloc, name)?;
+    device.sync_file(PART_OF_JOURNALS)?;
+    if !device.rename(PART_OF_JOURNALS, path.as_str())? {
+        return Err(DeviceFault::Device);
+    }
+    device.sync_folder(IN_JOURNALS)
 }
 
-/// Removes all files beside the journal of this name: journals of other states, and what a killed process was writing.
-/// Call it only if `has_other_journal` returns false.
-pub fn clear_journals<R: Files + AllocGlobal + Clone + Drop>(
-    rt: &R,
-    alloc: Global,
-    path: &str,
-    name: Name,
-) -> Result<(), FileFault> {
-    told(clear_in(rt, alloc, path, name))
+/// Removes the part of a journal that is not wanted. If that fails, the next `clear_journals` removes it.
+pub fn drop_journal<D: Device>(device: &mut D)
+    ensures dropped { IsTrue (D.honest device.old) → DropsPart unnamed (D.past device.old) (D.past device.new) }
+    ensures honest { D.honest device.new ≡ D.honest device.old }
+{
+    let _removed = device.remove(PART_OF_JOURNALS);
 }

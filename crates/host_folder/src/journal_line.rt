@@ -1,5 +1,7 @@
 // The file name of a journal, and its first line.
-ghost use Rattle.std.specs.Prelude.{◌≡◌, ◌++◌, IfSome, codes};
+ghost use Rattle.std.specs.Prelude.{◌≡◌, ◌++◌, IfOk, IfSome, List, Some, codes, ℕ};
+ghost use Rattle.std.specs.Io.KnownBytes.{Consumes};
+ghost use Rattle.git_name.specs.Name.{IsName};
 ghost use Rattle.hex.specs.Hex.{encode_lower};
 ghost use Rattle.host_folder.specs.Journal.{first_line, journal_called};
 
@@ -15,9 +17,14 @@ const NAME_END: usize = WORDS + 64;
 /// The length of a first line, with its LF.
 pub(crate) const LINE: usize = NAME_END + 1;
 
+/// How many bytes the first line of a journal has, with its LF.
+pub const JOURNAL_LINE: u64 = 75;
+
 /// The name of the journal of version 2 whose file is called so.
 pub(crate) fn name_called(text: &[u8]) -> Option<Name>
-    ensures { IfSome result (λ name. text.now ≡ journal_called name) }
+    ensures called { IfSome result (λ name. text.now ≡ journal_called name) }
+    ensures name { IfSome result IsName }
+    ensures named { (name : List ℕ) → IsName name → text.now ≡ journal_called name → result ≡ Some name }
 {
     if text.len() != 66 {
         return None;
@@ -43,7 +50,8 @@ pub(crate) fn line_of(standing: Name) -> [u8; LINE]
 
 // The name in a first line.
 fn name_in(line: &[u8; LINE]) -> Option<Name>
-    ensures { IfSome result (λ name. line.now ≡ first_line name) }
+    ensures line { IfSome result (λ name. line.now ≡ first_line name) }
+    ensures name { IfSome result IsName }
 {
     let Some(name) = Name::parse_hex(&line[WORDS..NAME_END]) else {
         return None;
@@ -55,9 +63,12 @@ fn name_in(line: &[u8; LINE]) -> Option<Name>
 }
 
 /// Reads the first line of a journal, and returns the name in it.
-pub(crate) fn read_line(file: &mut impl Read) -> io::Result<Name> {
+pub(crate) fn read_line<R: Read>(reader: &mut R) -> io::Result<Name>
+    ensures line { IfOk result (λ name. Consumes (R.remaining reader.old) (R.remaining reader.new) (first_line name)) }
+    ensures name { IfOk result IsName }
+{
     let mut line = [0; LINE];
-    file.read_exact(&mut line)?;
+    reader.read_exact(&mut line)?;
     match name_in(&line) {
         Some(name) => Ok(name),
         None => Err(io::Error::from(ErrorKind::InvalidData)),

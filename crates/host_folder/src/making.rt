@@ -2,7 +2,7 @@
 use crate::journal_file::JOURNALS;
 use crate::part::told;
 use crate::path::inside;
-use crate::state_file::STATE;
+use crate::state_place::STATE;
 use devices::{create_folder, create_folders, found, sync_folder};
 use loose_store::FileFault;
 use std::alloc::Global;

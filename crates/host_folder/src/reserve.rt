@@ -1,7 +1,10 @@
+ghost use Rattle.std.specs.Prelude.{◌≡◌, true};
+ghost use Rattle.devices.specs.declared.device.DeviceFault.TheVariants.{Room};
+
 use crate::gate::Gate;
 use crate::part::{settle, told};
 use crate::path::inside;
-use devices::{create_file, found};
+use devices::{DeviceFault, create_file, found};
 use loose_store::FileFault;
 use std::alloc::{AllocError, Global};
 use std::cell::Cell;
@@ -170,14 +173,9 @@ impl Reserve {
         }
     }
 
-    /// Gives it back after an error that reports a lack of room, unless it was given back before. Returns whether there
-    /// may be room now, so that what failed is worth trying again.
-    pub fn gives_back(&self, error: &io::Error) -> bool {
-        if !matches!(
-            error.kind(),
-            ErrorKind::StorageFull | ErrorKind::QuotaExceeded
-        ) || self.is_given_back()
-        {
+    // Gives it back, unless it was given back before. Returns whether there may be room now.
+    fn makes_room(&self) -> bool {
+        if self.is_given_back() {
             return false;
         }
         let Some(made) = &self.made else {
@@ -185,6 +183,17 @@ impl Reserve {
         };
         self.note_given_back();
         made.as_ref().file.set_len(0).is_ok()
+    }
+
+    /// Gives it back after a fault of a device for want of room, unless it was given back before. Returns whether there may be
+    /// room now.
+    pub fn gives_back_for(&self, fault: DeviceFault) -> bool
+        ensures { result ≡ true → fault ≡ Room }
+    {
+        match fault {
+            DeviceFault::Room => self.makes_room(),
+            _ => false,
+        }
     }
 
     /// Tries to make it again after it was given back, and returns whether it is whole now. It needs 8 MiB more than it

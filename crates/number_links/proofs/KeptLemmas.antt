@@ -1,5 +1,5 @@
 -- A set of all that some numbers lead to, as more becomes known and as numbers are renewed.
-use Rattle.std.proofs.Common.{◌≡◌, ◌≢◌, ◌⊎◌, ℕ, Bool, true, false, List, [], ◌∷◌, Option, Some, None, is_some, not, All, get_or, refl, sym, ap, subst, ◌∙◌, inl, inr}
+use Rattle.std.proofs.Common.{◌≡◌, ◌≢◌, ◌⊎◌, ◌↔◌, ℕ, Bool, true, false, List, [], ◌∷◌, Option, Some, None, is_some, not, All, get_or, refl, sym, ap, subst, ◌∙◌, inl, inr}
 use Rattle.std.specs.List.{Contains}
 use Rattle.std.specs.Option.{unwrap_or}
 use Rattle.std.specs.Prelude.{filter}
@@ -7,7 +7,7 @@ use Rattle.std.proofs.lemmas.Bool.{not-true}
 use Rattle.std.proofs.lemmas.List.Elements.{All-filter, All-same, All-weaker, filter_passes}
 use Rattle.number_links.specs.Numbers.{has}
 use Rattle.number_links.specs.Kept.{IsAllLedTo, IsKept}
-use Rattle.number_links.specs.Known.{Known, known, linked}
+use Rattle.number_links.specs.Known.{Known, RestsOrIsKnown, known, linked}
 use Rattle.number_links.specs.declared.kept.Kept.{Kept}
 use Rattle.number_links.specs.Reach.{IsReached, Root, Next}
 use Rattle.number_links.proofs.SeeingLemmas.{none_there}
@@ -78,6 +78,11 @@ pub reached_anyhow : (next now : ℕ → List ℕ) (allowed : ℕ → Bool) (roo
 reached_anyhow next now allowed roots same _ (Root n root there) = Root n root refl
 reached_anyhow next now allowed roots same _ (Next from n reached linked_to there) = Next from n (reached_anyhow next now allowed roots same from reached) (subst (λ ms. Contains ms n) (sym (same from)) linked_to) refl
 
+-- links that lead to the same reach the same
+pub reached_same : (next now : ℕ → List ℕ) (allowed : ℕ → Bool) (roots : List ℕ) → ((q : ℕ) → now q ≡ next q) → (n : ℕ) → IsReached next allowed roots n → IsReached now allowed roots n
+reached_same next now allowed roots same _ (Root n root there) = Root n root there
+reached_same next now allowed roots same _ (Next from n reached linked_to there) = Next from n (reached_same next now allowed roots same from reached) (subst (λ ms. Contains ms n) (sym (same from)) linked_to) there
+
 -- ---- all that are kept
 pub all_more : (links now : Known) → ((q : ℕ) → is_some (known links q) ≡ true → known now q ≡ known links q) → (ks : List Kept) → All (IsKept links) ks → All (IsKept now) ks
 all_more links now stays ks are = All-weaker (IsKept links) (IsKept now) (λ one is. kept_more links now (one.root ∷ []) (has one.reached) stays is) ks are
@@ -112,13 +117,13 @@ learns_nowhere links now allowed rests only q ms is = elim (only q ms is) [
 ]
 
 -- what a walk found that learned only of numbers that lead nowhere
-pub kept_gathered : (links now : Known) (root : ℕ) (seen : ℕ → Bool) (waits : List ℕ) → waits ≡ [] → ((q : ℕ) → is_some (known links q) ≡ true → known now q ≡ known links q)
-    → ((q : ℕ) (ms : List ℕ) → known now q ≡ Some ms → (known links q ≡ Some ms) ⊎ (ms ≡ [])) → Walks (λ n. is_some (known now n) ≡ true) (linked links) (λ _. true) (root ∷ []) seen waits
-    → IsAllLedTo now (root ∷ []) seen
-kept_gathered links now root seen waits none stays only walks = record {
+pub kept_gathered : (links now : Known) (roots : List ℕ) (seen : ℕ → Bool) (waits : List ℕ) → waits ≡ [] → ((q : ℕ) → is_some (known links q) ≡ true → known now q ≡ known links q)
+    → ((q : ℕ) (ms : List ℕ) → known now q ≡ Some ms → (known links q ≡ Some ms) ⊎ (ms ≡ [])) → Walks (λ n. is_some (known now n) ≡ true) (linked links) (λ _. true) roots seen waits
+    → IsAllLedTo now roots seen
+kept_gathered links now roots seen waits none stays only walks = record {
   rooted = λ n is. walks.begun n is refl;
   closed = λ from n there leads. (done from (walks.closed from there)).1 n (subst (λ ms. Contains ms n) (same from) leads) refl;
-  only = λ n there. reached_anyhow (linked links) (linked now) (λ _. true) (root ∷ []) same n (walks.reached n there);
+  only = λ n there. reached_anyhow (linked links) (linked now) (λ _. true) roots same n (walks.reached n there);
   known = λ n there. (done n (walks.closed n there)).0;
 }
   where
@@ -129,3 +134,26 @@ kept_gathered links now root seen waits none stays only walks = record {
         → (is_some (known now from) ≡ true) × ((n : ℕ) → Contains (linked links from) n → true ≡ true → seen n ≡ true)
     done from (inl waiting) = absurd (none_there from (subst (λ w. Contains w from) none waiting))
     done from (inr is) = is
+
+-- a set that was gathered, and is allowed, is what was reached before anything was learned
+pub gathered_reached : (links now : Known) (roots : List ℕ) (among allowed rests : ℕ → Bool) → ((q : ℕ) → is_some (known links q) ≡ true → known now q ≡ known links q) → Learns links now allowed rests
+    → IsAllLedTo now roots among → ((n : ℕ) → among n ≡ true → allowed n ≡ true) → (n : ℕ) → (among n ≡ true) ↔ IsReached (linked links) allowed roots n
+gathered_reached links now roots among allowed rests stays only is within n = (
+  λ there. reached_same (linked now) (linked links) allowed roots (λ q. sym (same q)) n (led_all now roots among allowed is within n (is.only n there)),
+  λ reached. all_led now roots among allowed is n (reached_same (linked links) (linked now) allowed roots same n reached),
+)
+  where
+    same : (q : ℕ) → linked now q ≡ linked links q
+    same = linked_as_before links now stays (learns_nowhere links now allowed rests only)
+
+-- each number of a set that was gathered rests, or its links were known before
+pub gathered_known : (links now : Known) (roots : List ℕ) (among allowed rests : ℕ → Bool) → Learns links now allowed rests → IsAllLedTo now roots among → (n : ℕ) → among n ≡ true → RestsOrIsKnown links rests n
+gathered_known links now roots among allowed rests only is n there = by (known now n) refl (is.known n there)
+  where
+    at : (ms : List ℕ) → (known links n ≡ Some ms) ⊎ ((ms ≡ []) × (allowed n ≡ true) × (rests n ≡ true)) → RestsOrIsKnown links rests n
+    at ms (inl before) = inr (ap is_some before)
+    at ms (inr learned) = inl learned.2
+
+    by : (o : Option (List ℕ)) → known now n ≡ o → is_some o ≡ true → RestsOrIsKnown links rests n
+    by None is_none wrong = absurd (let differs : ⊥ = cc in differs)
+    by (Some ms) is_now _ = at ms (only n ms is_now)

@@ -1,4 +1,5 @@
 pub mod BestLemmas
+pub mod BeyondLemmas
 pub mod BitLemmas
 pub mod CountLemmas
 pub mod DescentLemmas

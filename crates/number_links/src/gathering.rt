@@ -1,4 +1,4 @@
-// Finds all numbers reachable from one, and makes their links known.
+// Finds all numbers reachable from some, and makes their links known.
 ghost use Rattle.std.specs.Prelude.{◌≡◌, ◌⊎◌, ℕ, List, [], ◌∷◌, Some, All, true, false, is_some, None, IfOk, IfSome, OnOk};
 ghost use Rattle.number_links.specs.Numbers.{has};
 ghost use Rattle.number_links.specs.Kept.{IsAllLedTo, IsKept};
@@ -97,32 +97,44 @@ fn follow<R: Resting>(
     Ok(true)
 }
 
-// All numbers reachable from the root, each of which then has known links. `ends` are numbers that are known to have
-// none. Returns `None` if the root is not allowed, or if a number has no known links and does not rest or is not allowed.
+// Whether all of these numbers are allowed.
+fn are_allowed(allowed: &NumberSet, numbers: &[u32]) -> bool
+    ensures { result ≡ true → All (λ n. has allowed.now n ≡ true) numbers.now }
+{
+    for n in numbers {
+        if !allowed.contains(*n) {
+            return false;
+        }
+    }
+    true
+}
+
+// All numbers reachable from the roots, each of which then has known links. `ends` are numbers that are known to have
+// none. Returns `None` if a root is not allowed, or if a number has no known links and does not rest or is not allowed.
 // A kept set is taken as a whole. Each other number is counted.
-pub(crate) fn gather<R: Resting>(
+fn gather<R: Resting>(
     alloc: Global,
     links: &mut Links,
     ends: &NumberSet,
     kept: &[Kept],
     allowed: &NumberSet,
     resting: &R,
-    root: u32,
+    roots: &[u32],
     count: &mut usize,
 ) -> Result<Option<NumberSet>, AllocError>
     requires kept { All (IsKept links.old) kept.now }
     requires ends { LeadNowhere links.old (has ends.now) }
     ensures stays { (q : ℕ) → is_some (known links.old q) ≡ true → known links.new q ≡ known links.old q }
     ensures only { (q : ℕ) (ms : List ℕ) → known links.new q ≡ Some ms → (known links.old q ≡ Some ms) ⊎ ((ms ≡ []) × (has allowed.now q ≡ true) × (R.rests resting.now q ≡ true)) }
-    ensures found { IfOk result (λ r. IfSome r (λ found. IsAllLedTo links.new (root ∷ []) (has found))) }
-    ensures own { IfOk result (λ r. IfSome r (λ found. has allowed.now root ≡ true)) }
+    ensures found { IfOk result (λ r. IfSome r (λ found. IsAllLedTo links.new roots.now (has found))) }
+    ensures own { IfOk result (λ r. IfSome r (λ found. All (λ root. has allowed.now root ≡ true) roots.now)) }
 {
-    if !allowed.contains(root) {
+    if !are_allowed(allowed, roots) {
         return Ok(None);
     }
     let mut seen = NumberSet::new(alloc);
     let mut waiting = Vec::new(alloc);
-    enter(ends, root, &mut seen, &mut waiting, count)?;
+    enter_all(ends, roots, &mut seen, &mut waiting, count)?;
     'waiting: while let Some(n) = waiting.pop() {
         if let Some(set) = find(kept, allowed, n) {
             take(&mut seen, set)?;
@@ -142,4 +154,31 @@ pub(crate) fn gather<R: Resting>(
         }
     }
     Ok(Some(seen))
+}
+
+// The same, or `None` if one of these numbers is not allowed.
+pub(crate) fn gather_allowed<R: Resting>(
+    alloc: Global,
+    links: &mut Links,
+    ends: &NumberSet,
+    kept: &[Kept],
+    allowed: &NumberSet,
+    resting: &R,
+    roots: &[u32],
+    count: &mut usize,
+) -> Result<Option<NumberSet>, AllocError>
+    requires kept { All (IsKept links.old) kept.now }
+    requires ends { LeadNowhere links.old (has ends.now) }
+    ensures stays { (q : ℕ) → is_some (known links.old q) ≡ true → known links.new q ≡ known links.old q }
+    ensures only { (q : ℕ) (ms : List ℕ) → known links.new q ≡ Some ms → (known links.old q ≡ Some ms) ⊎ ((ms ≡ []) × (has allowed.now q ≡ true) × (R.rests resting.now q ≡ true)) }
+    ensures found { IfOk result (λ r. IfSome r (λ found. IsAllLedTo links.new roots.now (has found))) }
+    ensures within { IfOk result (λ r. IfSome r (λ found. (n : ℕ) → has found n ≡ true → has allowed.now n ≡ true)) }
+{
+    let Some(found) = gather(alloc, links, ends, kept, allowed, resting, roots, count)? else {
+        return Ok(None);
+    };
+    if !found.is_within(allowed) {
+        return Ok(None);
+    }
+    Ok(Some(found))
 }

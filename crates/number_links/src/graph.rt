@@ -10,6 +10,7 @@ ghost use Rattle.number_links.specs.declared.along.Along.TheVariants.{Links as a
 
 use crate::along::{Along, time_beside};
 use crate::climbing::climb_all;
+use crate::gathering::gather_allowed;
 use crate::generations::Generations;
 use crate::ground::Ground;
 use crate::history::near;
@@ -186,6 +187,32 @@ impl Graph {
             resting,
             wanted,
             excluded,
+        )
+    }
+
+    /// The numbers reachable from the roots, or `None` if one of them is not allowed, or neither rests nor has known
+    /// links. A resting number on the way is then known to have no links.
+    pub fn reached<R: Resting>(
+        &mut self,
+        alloc: Global,
+        allowed: &NumberSet,
+        resting: &R,
+        roots: &[u32],
+    ) -> Result<Option<NumberSet>, AllocError>
+        ensures found { IfOk result (λ r. IfSome r (λ found. (n : ℕ) → (has found n ≡ true) ↔ IsReached (goes_on along_links self.old) (has allowed.now) roots.now n)) }
+        ensures known { IfOk result (λ r. IfSome r (λ found. (n : ℕ) → has found n ≡ true → RestsOrIsKnown self.old.links (R.rests resting.now) n)) }
+        ensures only { (q : ℕ) (one : Learned ℕ) → learned self.new q ≡ Some one → (learned self.old q ≡ Some one) ⊎ ((one ≡ nothing) × (has allowed.now q ≡ true) × (R.rests resting.now q ≡ true)) }
+    {
+        let mut count = 0;
+        gather_allowed(
+            alloc,
+            &mut self.links,
+            &self.ends,
+            self.kept.as_slice(),
+            allowed,
+            resting,
+            roots,
+            &mut count,
         )
     }
 

@@ -4,7 +4,7 @@ ghost use Rattle.number_links.specs.Numbers.{has};
 ghost use Rattle.number_links.specs.Kept.{IsKept};
 ghost use Rattle.number_links.specs.Known.{LeadNowhere, known};
 
-use crate::gathering::gather;
+use crate::gathering::gather_allowed;
 use crate::kept::{Kept, put};
 use crate::links::Links;
 use crate::number_set::NumberSet;
@@ -34,22 +34,19 @@ fn keep_one<R: Resting>(
     ensures only { (q : ℕ) (ms : List ℕ) → known links.new q ≡ Some ms → (known links.old q ≡ Some ms) ⊎ ((ms ≡ []) × (has allowed.now q ≡ true) × (R.rests resting.now q ≡ true)) }
 {
     let mut count = 0;
-    let Ok(Some(reached)) = gather(
+    let Ok(Some(reached)) = gather_allowed(
         alloc,
         links,
         ends,
         kept.as_slice(),
         allowed,
         resting,
-        root,
+        [root].as_slice(),
         &mut count,
     ) else {
         return;
     };
     if count < FEW {
-        return;
-    }
-    if !reached.is_within(allowed) {
         return;
     }
     put(kept, Kept { root, reached });

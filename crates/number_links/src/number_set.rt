@@ -205,6 +205,37 @@ impl NumberSet {
         }
         None
     }
+
+    /// The smallest number of the set that is at least this one and not in another set.
+    pub fn next_beyond(&self, other: &NumberSet, from: u32) -> Option<u32>
+        ensures some { IfSome result (λ n. (from ≤ n) × ((not (has other.now n) && has self.now n) ≡ true)) }
+        ensures first { IfSome result (λ n. (q : ℕ) → from ≤ q → q < n → (not (has other.now q) && has self.now q) ≡ false) }
+        ensures none { IfNone result ((q : ℕ) → from ≤ q → (not (has other.now q) && has self.now q) ≡ false) }
+    {
+        let mut begin = from as usize;
+        while begin / 4096 < self.pages.len() {
+            let at = begin / 4096;
+            let within = (begin % 4096) as u32;
+            if let Some(k) = next_at(self.pages.as_slice(), other.pages.as_slice(), at, within) {
+                return Some((at * 4096) as u32 + k);
+            }
+            begin = at * 4096 + 4096;
+        }
+        None
+    }
+}
+
+// The smallest number of the page at a place that is at least this one and not in the page that is there in another list.
+fn next_at(pages: &[Option<Page>], others: &[Option<Page>], at: usize, from: u32) -> Option<u32>
+    requires { at < length pages.now }
+    ensures some { IfSome result (λ k. (k < 4096) × (from ≤ k) × ((not (is_there (get_or others.now at None) k) && is_there (get_or pages.now at None) k) ≡ true)) }
+    ensures first { IfSome result (λ k. (q : ℕ) → from ≤ q → q < k → (not (is_there (get_or others.now at None) q) && is_there (get_or pages.now at None) q) ≡ false) }
+    ensures none { IfNone result ((q : ℕ) → from ≤ q → q < 4096 → (not (is_there (get_or others.now at None) q) && is_there (get_or pages.now at None) q) ≡ false) }
+{
+    if at >= others.len() {
+        return slot::next(&pages[at], from);
+    }
+    slot::next_beyond(&pages[at], &others[at], from)
 }
 
 // Makes the list of pages long enough for this page.

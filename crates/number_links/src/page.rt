@@ -103,4 +103,22 @@ impl Page {
         }
         None
     }
+
+    // The smallest number that is at least this one and not in another page.
+    pub(crate) fn next_beyond(&self, other: &Page, from: u32) -> Option<u32>
+        ensures some { IfSome result (λ k. (k < 4096) × (from ≤ k) × ((not (is_in other.now k) && is_in self.now k) ≡ true)) }
+        ensures first { IfSome result (λ k. (q : ℕ) → from ≤ q → q < k → (not (is_in other.now q) && is_in self.now q) ≡ false) }
+        ensures none { IfNone result ((q : ℕ) → from ≤ q → q < 4096 → (not (is_in other.now q) && is_in self.now q) ≡ false) }
+    {
+        let mut begin = from;
+        while begin < 4096 {
+            let at = begin as usize / 64;
+            let word = less(self.words[at], other.words[at]);
+            if let Some(k) = next_bit(word, begin % 64) {
+                return Some(at as u32 * 64 + k);
+            }
+            begin = at as u32 * 64 + 64;
+        }
+        None
+    }
 }

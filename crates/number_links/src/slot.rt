@@ -124,3 +124,18 @@ pub(crate) fn next(slot: &Option<Page>, from: u32) -> Option<u32>
     };
     page.next(from)
 }
+
+// The smallest number that is at least this one and not in another slot's page.
+pub(crate) fn next_beyond(slot: &Option<Page>, other: &Option<Page>, from: u32) -> Option<u32>
+    ensures some { IfSome result (λ k. (k < 4096) × (from ≤ k) × ((not (is_there other.now k) && is_there slot.now k) ≡ true)) }
+    ensures first { IfSome result (λ k. (q : ℕ) → from ≤ q → q < k → (not (is_there other.now q) && is_there slot.now q) ≡ false) }
+    ensures none { IfNone result ((q : ℕ) → from ≤ q → q < 4096 → (not (is_there other.now q) && is_there slot.now q) ≡ false) }
+{
+    let Some(page) = slot else {
+        return None;
+    };
+    let Some(other) = other else {
+        return page.next(from);
+    };
+    page.next_beyond(other, from)
+}

@@ -1,11 +1,13 @@
 -- What a tenant holds is settled number by number.
-use Rattle.std.proofs.Common.{◌≡◌, ◌≢◌, ℕ, ◌+◌, ◌<◌, ◌≤◌, Bool, true, false, cond, nat_lt, List, Option, None, Some, refl, sym, ap, ◌∙◌, arith}
+use Rattle.std.proofs.Common.{◌≡◌, ◌≢◌, ℕ, ◌+◌, ◌<◌, ◌≤◌, Bool, true, false, ◌&&◌, not, cond, nat_lt, List, Option, None, Some, refl, sym, ap, ◌∙◌, arith}
 use Rattle.std.specs.Option.{option_and_then, option_map, option_map_or}
 use Rattle.std.specs.FinMap.{get, same_map}
 use Rattle.std.proofs.lemmas.Bool.{ltb-false, ltb-true, lt-ltb}
 use Rattle.git_name.specs.Same.{same_name}
 use Rattle.git_name.proofs.Names.{name_exact, name_total}
+use Rattle.number_links.specs.Numbers.{Pages, has}
 use Rattle.object_table.specs.Chosen.{chosen}
+use Rattle.object_table.specs.Links.{is_among}
 use Rattle.object_table.specs.declared.row.Row.{Row}
 use Rattle.object_table.specs.declared.word.Word.{Word}
 use Rattle.object_table.specs.Rows.{AreRows, Rows, TableState, TellSame, row_in, told_of}
@@ -150,3 +152,25 @@ kept_idle row true false true is = refl
 kept_idle row true false false is = refl
 kept_idle row false false true is = refl
 kept_idle row false false false is = refl
+
+-- ---- only some numbers are kept
+pub among_told : (old new : Rows) (numbers : Pages) (q : List ℕ) (row : Row) → TellSame old new → row_in new q ≡ Some row → is_among old numbers q ≡ has numbers row.number
+among_told old new numbers q row told is = told_number (row_in old q) ∙ ap (λ o. option_map_or (λ (r : Row). has numbers r.number) o false) (sym (told q)) ∙ sym (told_number (row_in new q)) ∙ ap (λ o. option_map_or (λ (r : Row). has numbers r.number) o false) is
+  where
+    told_number : (o : Option Row) → option_map_or (λ (r : Row). has numbers r.number) o false ≡ option_map_or (λ (r : Row). has numbers r.number) (option_map told_of o) false
+    told_number None = refl
+    told_number (Some r) = refl
+
+-- what is seen and is not in a set
+pub beyond_told : (k v : Bool) → (not k && v) ≡ true → (k ≡ false) × (v ≡ true)
+beyond_told true v is = absurd (let wrong : ⊥ = cc in wrong)
+beyond_told false v is = (refl, is)
+
+pub kept_beyond : (row : Row) (k v s : Bool) → (not k && v) ≡ false → option_and_then (kept_word k) (word_by row v s) ≡ word_by row v s
+kept_beyond row true true true is = refl
+kept_beyond row true true false is = refl
+kept_beyond row true false true is = refl
+kept_beyond row true false false is = refl
+kept_beyond row false true s is = absurd (let wrong : ⊥ = cc in wrong)
+kept_beyond row false false true is = refl
+kept_beyond row false false false is = refl

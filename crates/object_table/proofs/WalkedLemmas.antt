@@ -218,6 +218,24 @@ module _ (rows : Rows) (own : Sets) (links : Facts) (are : AreRows rows) (is_own
   reached_row roots _ (Root q root there) = seen_row q there
   reached_row roots _ (Next from q before leads there) = seen_row q there
 
+  -- ---- what some names reach
+  module _ (roots : List (List ℕ)) (numbers : List ℕ) (only : (n : ℕ) → Contains numbers n → IsUsed rows n × Contains roots (numbered_name rows n)) (all : (name : List ℕ) (row : Row) → Contains roots name → row_in rows name ≡ Some row → Contains numbers row.number) where
+    pub reached_only : (found : ℕ → Bool) → ((n : ℕ) → found n ≡ true → Goes nextn (has own.visible) numbers n) → (q : List ℕ) → option_map_or (λ (row : Row). found row.number) (row_in rows q) false ≡ true → IsReached next (Seen rows own) roots q
+    reached_only found is q there = by (row_in rows q) refl there
+      where
+        by : (o : Option Row) → row_in rows q ≡ o → option_map_or (λ (row : Row). found row.number) o false ≡ true → IsReached next (Seen rows own) roots q
+        by None none found_it = (let differs : ⊥ = cc in absurd differs)
+        by (Some row) here found_it = goes_named roots numbers only all row.number (is row.number found_it) q row here refl
+
+    pub reached_all : (found : ℕ → Bool) → ((n : ℕ) → Goes nextn (has own.visible) numbers n → found n ≡ true) → (q : List ℕ) → IsReached next (Seen rows own) roots q → option_map_or (λ (row : Row). found row.number) (row_in rows q) false ≡ true
+    reached_all found is q led =
+        (let here = reached_row roots q led in
+        ap (λ o. option_map_or (λ (row : Row). found row.number) o false) here.1 ∙ is here.0.number (named_goes roots numbers only all q led here.0 here.1))
+
+    pub reached_known : ((n : ℕ) → Goes nextn (has own.visible) numbers n → (rests_in rows n ≡ true) ⊎ (is_some (known links.links n) ≡ true)) → (q : List ℕ) → IsReached next (Seen rows own) roots q
+        → (option_map_or (λ (word : Word). leads_nowhere word.kind) (get (Seen rows own) q) false ≡ true) ⊎ (contains_key (named_links rows links) q ≡ true)
+    reached_known is q led = (let here = reached_row roots q led in told q here.0 here.1 here.2 (is here.0.number (named_goes roots numbers only all q led here.0 here.1)))
+
   -- ---- between wanted and excluded names
   module _ (wanted excluded : List (List ℕ)) (ns ms : List ℕ)
       (only : (n : ℕ) → Contains ns n → IsUsed rows n × Contains wanted (numbered_name rows n)) (all : (name : List ℕ) (row : Row) → Contains wanted name → row_in rows name ≡ Some row → Contains ns row.number)

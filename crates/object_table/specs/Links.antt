@@ -7,6 +7,7 @@ use Rattle.git_name.specs.Name.{name_cmp}
 use Rattle.git_name.specs.declared.kind.Kind.{Kind}
 use Rattle.git_name.specs.declared.kind.Kind.TheVariants.{Blob, Tree, Commit, Tag}
 use Rattle.number_links.specs.Facts.{Facts, Learned, goes_from, learned, learned_as}
+use Rattle.number_links.specs.Numbers.{Pages, has}
 use Rattle.number_links.specs.declared.along.Along.{Along}
 use Rattle.number_links.specs.declared.along.Along.TheVariants.{Links, Parents}
 use Rattle.object_table.specs.Chosen.{chosen_in}
@@ -32,6 +33,10 @@ leads_nowhere Tag = false
 -- whether a number belongs to an object that has no links
 abbrev pub rests_in : Rows → ℕ → Bool
 rests_in rows n = option_map_or (λ e. leads_nowhere e.1.kind) (numbered rows n) false
+
+-- whether the number of a name is among these; a name without a number is not
+abbrev pub is_among : Rows → Pages → List ℕ → Bool
+is_among rows numbers name = option_map_or (λ row. has numbers row.number) (row_in rows name) false
 
 -- the known links and times of objects, by name
 abbrev pub NamedLinks : Type 0

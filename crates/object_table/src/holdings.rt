@@ -12,7 +12,7 @@ ghost use Rattle.object_table.specs.Clashes.{AreAs, Clash};
 ghost use Rattle.object_table.specs.Holders.{AreHeld, holders_of, is_held_in};
 ghost use Rattle.object_table.specs.Ledgers.{at_ledger, ledger_at, with_ledger, word_at};
 ghost use Rattle.object_table.specs.Links.{AreLinks, KnowsNoMore, KeepsNumbers, leads_nowhere, named_links, next_named, numbered_name, parents_named};
-ghost use Rattle.object_table.specs.Walked.{IsBest, IsBetween, IsMet};
+ghost use Rattle.object_table.specs.Walked.{IsBest, IsBetween, IsMet, IsRetained};
 ghost use Rattle.object_table.specs.Rows.{IsUsed, LooksNextAt, places_of, row_in};
 ghost use Rattle.object_table.specs.declared.row.Row.{Row};
 ghost use Rattle.number_links.specs.Facts.{Learned, learned, nothing, told};
@@ -25,7 +25,7 @@ use crate::coming::{coming, use_with_coming, word_under};
 use crate::describing::{describe_all, is_as};
 use crate::entry::Entry;
 use crate::ledgers::Ledgers;
-use crate::linking::{keep_names, names_between, names_in_history, numbers_of};
+use crate::linking::{keep_names, names_between, names_in_history, numbers_of, numbers_reached};
 use crate::listing::{count_seen, seen_names};
 use crate::name_set::NameSet;
 use crate::row::Row;
@@ -439,6 +439,33 @@ impl Holdings {
             return;
         };
         keep_names(alloc, &self.table, &mut self.links, own, names);
+    }
+
+    /// Drops the objects that the tenant sees and that are not reachable from these names. Returns `false`, and drops
+    /// none, if the links of an object on the way are not known.
+    pub fn retain_reached(
+        &mut self,
+        alloc: Global,
+        tenant: &TenantName,
+        roots: &[Name],
+    ) -> Result<bool, AllocError>
+        ensures retained { IfOk result (λ done. done ≡ true → IsRetained self.old.links tenant.now roots.now self.old.ledgers self.new.ledgers) }
+        ensures kept { IfOk result (λ done. done ≡ false → self.new.ledgers ≡ self.old.ledgers) }
+        ensures err { OnErr result (self.new.ledgers ≡ self.old.ledgers) }
+        ensures places { places_of self.new.catalogue ≡ places_of self.old.catalogue }
+        ensures links { (q : List ℕ) (one : Learned (List ℕ)) → map.get self.new.links q ≡ Some one → (map.get self.old.links q ≡ Some one) ⊎ ((one ≡ nothing) × (option_map_or (λ word. leads_nowhere word.kind) (map.get (words_that is_visible (ledger_at self.old.ledgers tenant.now)) q) false ≡ true)) }
+    {
+        self.table.invariant();
+        let Some(own) = self.ledgers.get(tenant) else {
+            return Ok(false);
+        };
+        let reached = numbers_reached(alloc, &self.table, &mut self.links, own, roots)?;
+        let Some(numbers) = reached else {
+            return Ok(false);
+        };
+        self.ledgers.keep_numbers(&mut self.table, tenant, &numbers);
+        self.table.invariant();
+        Ok(true)
     }
 
     /// The number of names in the catalogue.

@@ -1,4 +1,4 @@
-ghost use Rattle.std.specs.Prelude.{◌≡◌, ◌<◌, ◌≤◌, ◌+◌, ◌^◌, ◌||◌, ℕ, true, false, nat_eq, OnOk, IfSome, IfNone, if◌then◌else◌};
+ghost use Rattle.std.specs.Prelude.{◌≡◌, ◌<◌, ◌≤◌, ◌+◌, ◌^◌, ◌||◌, ◌&&◌, not, ℕ, true, false, nat_eq, OnOk, IfSome, IfNone, if◌then◌else◌};
 ghost use Rattle.number_links.specs.Numbers.{has, has_room};
 ghost use Rattle.object_table.specs.Views.{holds};
 
@@ -81,6 +81,15 @@ impl Ledger {
         ensures none { IfNone result ((q : ℕ) → from ≤ q → has self.now.visible q ≡ false) }
     {
         self.visible.next(from)
+    }
+
+    /// The smallest visible number that is at least `from` and not in this set.
+    pub(crate) fn next_beyond(&self, numbers: &NumberSet, from: u32) -> Option<u32>
+        ensures some { IfSome result (λ n. (from ≤ n) × ((not (has numbers.now n) && has self.now.visible n) ≡ true)) }
+        ensures first { IfSome result (λ n. (q : ℕ) → from ≤ q → q < n → (not (has numbers.now q) && has self.now.visible q) ≡ false) }
+        ensures none { IfNone result ((q : ℕ) → from ≤ q → (not (has numbers.now q) && has self.now.visible q) ≡ false) }
+    {
+        self.visible.next_beyond(numbers, from)
     }
 
     /// The smallest staged number that is at least `from`.

@@ -7,20 +7,21 @@ ghost use Rattle.object_table.specs.Clashes.{HasRow};
 ghost use Rattle.object_table.specs.Coming.{all_seen_words, coming_in, use_of_entry};
 ghost use Rattle.object_table.specs.Holders.{AreHeld};
 ghost use Rattle.object_table.specs.Ledgers.{at_ledger, ledger_at, with_ledger, word_at};
-ghost use Rattle.object_table.specs.Links.{KeepsNumbers};
+ghost use Rattle.object_table.specs.Links.{KeepsNumbers, is_among};
 ghost use Rattle.object_table.specs.Rows.{places_of};
 ghost use Rattle.object_table.specs.Totals.{capped, total_of, used_by};
 ghost use Rattle.object_table.specs.Views.{all_words};
 ghost use Rattle.object_table.specs.Words.{discarded_words, is_visible, kept_words, published_words, words_that};
 
 use crate::entry::Entry;
-use crate::leaving::{discard, keep_only};
+use crate::leaving::{discard, keep_numbers, keep_only};
 use crate::ledger::Ledger;
 use crate::name_set::NameSet;
 use crate::staging::{see_entries, stage_entries};
 use crate::table::Table;
 use fork_request::TenantName;
 use git_name::Name;
+use number_links::NumberSet;
 use std::alloc::{AllocError, Global};
 use std::collections::BTreeMap;
 use std::marker::Model;
@@ -190,5 +191,26 @@ impl Ledgers {
             return;
         };
         keep_only(table, own, names);
+    }
+
+    /// Drops the objects that the tenant sees, except those with these numbers. Allocates nothing.
+    pub(crate) fn keep_numbers(
+        &mut self,
+        table: &mut Table,
+        tenant: &TenantName,
+        numbers: &NumberSet,
+    )
+        requires held { AreHeld table.old.entries self.old }
+        ensures held { AreHeld table.new.entries self.new }
+        ensures words { all_words table.new.entries self.new ≡ at_ledger (all_words table.old.entries self.old) tenant.now (kept_words (is_among table.old.entries numbers.now)) }
+        ensures places { places_of table.new ≡ places_of table.old }
+        ensures numbers { KeepsNumbers table.old.entries table.new.entries }
+    {
+        table.invariant();
+        let _tenants = self.len();
+        let Some(own) = self.tenants.get_mut(tenant) else {
+            return;
+        };
+        keep_numbers(table, own, numbers);
     }
 }

@@ -6,10 +6,10 @@ ghost use Rattle.std.specs.Option.{option_map_or};
 ghost use Rattle.git_name.specs.Same.{same_name};
 ghost use Rattle.number_links.specs.Facts.{Learned, nothing};
 ghost use Rattle.number_links.specs.Numbers.{has};
-ghost use Rattle.object_table.specs.Links.{AreLinks, leads_nowhere, named_links, next_named, numbered_name, parents_named, rests_in};
+ghost use Rattle.object_table.specs.Links.{AreLinks, is_among, leads_nowhere, named_links, next_named, numbered_name, parents_named, rests_in};
 ghost use Rattle.object_table.specs.Rows.{IsUsed, row_in};
 ghost use Rattle.object_table.specs.Views.{IsOwn, words_of};
-ghost use Rattle.object_table.specs.Walked.{IsBetween, IsMet};
+ghost use Rattle.object_table.specs.Walked.{IsBetween, IsLedTo, IsMet};
 ghost use Rattle.object_table.specs.Words.{is_visible, words_that};
 ghost use Rattle.object_table.specs.declared.row.Row.{Row};
 
@@ -183,6 +183,28 @@ pub(crate) fn names_in_history(
     };
     let names = names_of(alloc, table, &numbers)?;
     Ok(Some(names))
+}
+
+// The numbers of the visible objects that are reachable from these names, or `None` if the links of an object on the way
+// are not known. A blob on the way is then known to have no links.
+pub(crate) fn numbers_reached(
+    alloc: Global,
+    table: &Table,
+    links: &mut Graph,
+    own: &Ledger,
+    roots: &[Name],
+) -> Result<Option<NumberSet>, AllocError>
+    requires own { IsOwn table.now.entries own.now }
+    requires linked { AreLinks table.now.entries links.old }
+    ensures linked { AreLinks table.now.entries links.new }
+    ensures links { (q : List ℕ) (one : Learned (List ℕ)) → get (named_links table.now.entries links.new) q ≡ Some one → (get (named_links table.now.entries links.old) q ≡ Some one) ⊎ ((one ≡ nothing) × (option_map_or (λ word. leads_nowhere word.kind) (get (words_that is_visible (words_of table.now.entries own.now)) q) false ≡ true)) }
+    ensures only { IfOk result (λ found. IfSome found (λ numbers. (name : List ℕ) → is_among table.now.entries numbers name ≡ true → IsLedTo (words_that is_visible (words_of table.now.entries own.now)) (next_named (named_links table.now.entries links.old)) roots.now name)) }
+    ensures all { IfOk result (λ found. IfSome found (λ numbers. (name : List ℕ) → IsLedTo (words_that is_visible (words_of table.now.entries own.now)) (next_named (named_links table.now.entries links.old)) roots.now name → is_among table.now.entries numbers name ≡ true)) }
+    ensures known { IfOk result (λ found. IfSome found (λ numbers. (name : List ℕ) → IsLedTo (words_that is_visible (words_of table.now.entries own.now)) (next_named (named_links table.now.entries links.old)) roots.now name → (option_map_or (λ word. leads_nowhere word.kind) (get (words_that is_visible (words_of table.now.entries own.now)) name) false ≡ true) ⊎ (contains_key (named_links table.now.entries links.old) name ≡ true))) }
+{
+    table.invariant();
+    let from = numbers_there(alloc, table, roots)?;
+    links.reached(alloc, own.visible(), table, from.as_slice())
 }
 
 // Keeps the sets of all objects reachable from these names, so that they need not be walked again. A set is kept only

@@ -1,5 +1,5 @@
 // Names with their rows, each at a place.
-ghost use Rattle.std.specs.Prelude.{◌≡◌, ◌<◌, ◌+◌, ◌++◌, ◌∷◌, [], ℕ, List, None, Some, length, nat_lt, slice_get, swap_remove, if◌then◌else◌};
+ghost use Rattle.std.specs.Prelude.{◌≡◌, ◌<◌, ◌+◌, ◌++◌, ◌∷◌, [], ℕ, List, None, Some, is_some, length, nat_lt, slice_get, swap_remove, if◌then◌else◌};
 ghost use Rattle.std.specs.HashMap.{Updates};
 ghost use Rattle.std.specs.List.{IsDistinct};
 ghost use Rattle.std.specs.Map.{keys_of, lookup};
@@ -9,8 +9,18 @@ ghost use Rattle.object_table.specs.Numbers.{numbers_of};
 ghost use Rattle.object_table.specs.declared.row.Row.{Row};
 
 use crate::row::Row;
-use git_name::{Hashing, Name};
+use git_name::{Hashing, Name, Nearby};
 use indexmap::IndexMap;
+
+// Whether a name has a row. One that stands beside the name that was found last is found faster.
+pub(crate) fn has_row(rows: &IndexMap<Name, Row, Hashing>, nearby: &Nearby, name: Name) -> bool
+    ensures { result ≡ is_some (lookup (same_name name) rows.now.entries) }
+{
+    match nearby.get(rows, name) {
+        Some(_) => true,
+        None => false,
+    }
+}
 
 // Appends a new name, for which room was reserved. Allocates nothing.
 pub(crate) fn put_last(rows: &mut IndexMap<Name, Row, Hashing>, name: Name, row: Row)

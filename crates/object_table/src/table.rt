@@ -7,7 +7,7 @@ ghost use Rattle.object_table.specs.declared.row.Row.{Row};
 
 use crate::numbers::{extend, switch};
 use crate::row::Row;
-use crate::rows::{entry_at, looked_place, put_last, take_out, write_at};
+use crate::rows::{entry_at, has_row, looked_place, put_last, take_out, write_at};
 use git_name::{Hashing, Kind, Name, Nearby};
 use indexmap::IndexMap;
 use std::alloc::{AllocError, Global};
@@ -109,7 +109,7 @@ impl Table {
         ensures place { self.new.place ≡ self.old.place }
         ensures err { OnErr result (self.new ≡ self.old) }
     {
-        if self.rows.contains_key(&name) {
+        if has_row(&self.rows, &self.nearby, name) {
             return Ok(());
         }
         let at = self.rows.len();

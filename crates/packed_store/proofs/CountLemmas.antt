@@ -1,11 +1,9 @@
--- How many bytes the last segment has, after one more.
-use Rattle.std.proofs.Common.{◌≡◌, false, Option, Some, None, IfSome, length}
-use Rattle.std.specs.Option.{unwrap_or}
-use Rattle.devices.specs.Device.{Files}
+-- The number of the next segment is between the least and the greatest one.
+use Rattle.std.proofs.Common.{◌≡◌, ◌≤◌, ℕ, Option, Some, None, IfSome, arith}
 use Rattle.packed_store.specs.declared.survey.Last.{Last}
-use Rattle.packed_store.specs.Place.{segment_of}
+use Rattle.packed_store.specs.Numbered.{IsCalled}
 
-pub next_counted : (files : Files) (next : Option Last) (last : Last) → (last.is_torn ≡ false → length (segment_of files last.segment) ≡ last.end) → IfSome next (λ one. length (segment_of files one.segment) ≡ one.end)
-    → (unwrap_or next last).is_torn ≡ false → length (segment_of files (unwrap_or next last).segment) ≡ (unwrap_or next last).end
-next_counted files (Some one) last before counted whole = counted
-next_counted files None last before counted whole = before whole
+pub between : (next : Option Last) (n lo hi first last : ℕ) → IsCalled next n → IfSome next (λ one. first ≤ one.segment) → IfSome next (λ one. one.segment ≤ last) → lo ≤ first → last ≤ hi → (lo ≤ n) × (n ≤ hi)
+between (Some one) n lo hi first last (last_one, is, named) least most low high =
+    (let same : one.segment ≡ last_one.segment = cc in (omega (arith, low, least, same, named), omega (arith, high, most, same, named)))
+between None n lo hi first last (last_one, is, named) least most low high = absurd (cc)

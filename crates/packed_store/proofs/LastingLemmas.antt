@@ -22,11 +22,11 @@ use Rattle.devices.proofs.SeenLemmas.{not_true, seen_bytes}
 use Rattle.packed_store.proofs.SureLemmas.{all_narrowed, folder_unfailed, sure_grown, sure_taken, unfailed_grown, unfailed_taken}
 
 -- ---- segments are in their folder
-digits_slashless : (ds : List ℕ) → AllDigits 10 ds → HasNoSlash ds
+pub digits_slashless : (ds : List ℕ) → AllDigits 10 ds → HasNoSlash ds
 digits_slashless [] all = tt
 digits_slashless (c ∷ ds) (digit, all) = (λ is. (let slash : digit_value 47 < 10 = subst (λ (n : ℕ). digit_value n < 10) is digit in let never : ⊥ = omega (arith, slash) in never), digits_slashless ds all)
 
-zeros_slashless : (k : ℕ) (ds : List ℕ) → HasNoSlash ds → HasNoSlash (replicate k 48 ++ ds)
+pub zeros_slashless : (k : ℕ) (ds : List ℕ) → HasNoSlash ds → HasNoSlash (replicate k 48 ++ ds)
 zeros_slashless zero ds none = none
 zeros_slashless (suc k) ds none = ((λ is. (let never : ⊥ = omega (arith, is) in never)), zeros_slashless k ds none)
 
@@ -41,7 +41,7 @@ slash_none [] none = refl
 slash_none (b ∷ bytes) (first, rest) =
     ap (λ (t : Bool). t || list_any (λ b. nat_eq b 47) bytes) (not_true (nat_eq b 47) (λ same. first ((Decides-eqb b 47).0 same))) ∙ slash_none bytes rest
 
-name_one : (folder rest : List ℕ) → HasNoSlash rest → name_in_folder folder (folder ++ rest) ≡ rest ∷ []
+pub name_one : (folder rest : List ℕ) → HasNoSlash rest → name_in_folder folder (folder ++ rest) ≡ rest ∷ []
 name_one folder rest none =
     ap (λ (xs : List ℕ). cond (pointwise nat_eq xs folder) (plain (drop (length folder) (folder ++ rest))) []) (take-append_seam folder rest)
     ∙ ap (λ (b : Bool). cond b (plain (drop (length folder) (folder ++ rest))) []) (same_text folder)
@@ -62,7 +62,7 @@ some_there : (o : Option (List ℕ)) (bytes : List ℕ) → o ≡ Some bytes →
 some_there (Some b) bytes is = refl
 some_there None bytes is = absurd (cc)
 
-listed_in : (files : Files) (q bytes : List ℕ) → get files q ≡ Some bytes → list_any (eq_by_cmp name_cmp q) (keys files) ≡ true
+pub listed_in : (files : Files) (q bytes : List ℕ) → get files q ≡ Some bytes → list_any (eq_by_cmp name_cmp q) (keys files) ≡ true
 listed_in files q bytes is = sym (contains_key-keys files q) ∙ some_there (get files q) bytes is
 
 -- ---- what a read shows

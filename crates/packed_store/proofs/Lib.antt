@@ -15,3 +15,4 @@ pub mod StoredLemmas
 pub mod SureLemmas
 pub mod SurveyLemmas
 pub mod TakingLemmas
+pub mod WithinLemmas

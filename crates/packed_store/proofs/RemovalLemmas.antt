@@ -26,7 +26,7 @@ zeros_add_nothing zero ds = refl
 zeros_add_nothing (suc k) ds = zeros_add_nothing k ds
 
 -- the number that eight digits write
-value_of_eight : (n : ℕ) → n < 2 ^ 64 → digits_value 10 (eight_digits n) ≡ n
+pub value_of_eight : (n : ℕ) → n < 2 ^ 64 → digits_value 10 (eight_digits n) ≡ n
 value_of_eight n small = zeros_add_nothing (8 - length (decimal n)) (decimal n) ∙ digits_value-decimal (numerals_by_value _ tells_digits) n small
 
 -- different segments have different paths

@@ -48,6 +48,10 @@ pub record AreLasting (past : Past) (first last : ℕ) : Type 0 where
   pub there : (segment : ℕ) → segment ≤ LAST_SEGMENT → first ≤ segment → segment ≤ last → IsLasting past segment
   pub gone : (segment : ℕ) → segment ≤ LAST_SEGMENT → get (files_of past) (segment_path segment) ≡ None → IsLasting past segment
 
+-- whatever a loss of power leaves, each segment is what a read shows, and there is no other one
+abbrev pub AllLast : Past → Type 0
+AllLast past = (segment : ℕ) → 0 < segment → segment ≤ LAST_SEGMENT → IsLasting past segment
+
 -- a loss of power leaves of the new past only what it leaves of the old one, and what is seen is the same
 pub record Narrows (old new : Past) : Type 0 where
   pub names : names_after new.base new.effects ≡ names_after old.base old.effects

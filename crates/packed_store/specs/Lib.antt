@@ -3,6 +3,7 @@ pub mod Contents
 pub mod Copied
 pub mod Entry
 pub mod Lasting
+pub mod Numbered
 pub mod Opening
 pub mod Place
 pub mod Reading

@@ -1,5 +1,5 @@
 -- What an opening shows (own): what the records of all segments leave, in the order in which a listing names these.
-use Rattle.std.specs.Prelude.{◌≡◌, false, ℕ, List, [], ◌∷◌, codes}
+use Rattle.std.specs.Prelude.{◌≡◌, ◌≤◌, false, ℕ, List, [], ◌∷◌, codes}
 use Rattle.std.specs.FinMap.{keys}
 use Rattle.devices.specs.Device.{Files, names_in_folder}
 use Rattle.git_name.specs.Maps.{map_values}
@@ -21,6 +21,11 @@ Surveys files (called ∷ names) old new = (mid : Shown) × Adds files called ol
 -- what is called in the folder of the segments, ascending
 abbrev pub listed : Files → List (List ℕ)
 listed files = names_in_folder (codes "segments/") (keys files)
+
+-- the numbers that these names write are from the first to the last
+abbrev pub AreNumbersWithin : List (List ℕ) → ℕ → ℕ → Type 0
+AreNumbersWithin [] first last = Unit {0}
+AreNumbersWithin (called ∷ names) first last = ((segment : ℕ) → IsNumbered called segment → (first ≤ segment) × (segment ≤ last)) × AreNumbersWithin names first last
 
 -- a store shows the files that are live or pending at the end
 pub record Opens (files : Files) (contents : loose.Files) : Type 0 where

@@ -54,6 +54,10 @@ pub record EndsAround (files : Files) (place : Place) (count : ℕ) (bytes : Lis
   pub whole : segment_of files place.segment ≡ front ++ bytes
   pub behind : length front + count ≡ place.at
 
+-- a segment that exists has one of these numbers, from the first to the last
+abbrev pub AreWithin : Files → ℕ → ℕ → Type 0
+AreWithin files first last = (segment : ℕ) (bytes : List ℕ) → 0 < segment → segment ≤ LAST_SEGMENT → get files (segment_path segment) ≡ Some bytes → (first ≤ segment) × (segment ≤ last)
+
 -- places by name
 abbrev pub Index : Type 0
 Index = FinMap name_cmp Place

@@ -6,7 +6,7 @@ ghost use Rattle.git_name.specs.Same.{Sets, same_name};
 ghost use Rattle.packed_store.specs.Place.{HasNoneIn, IsElsewhere, index_of};
 
 use crate::place::{LAST_SEGMENT, Place, TITLE};
-use git_name::{Hashing, Name};
+use git_name::{Hashing, Name, Nearby};
 use indexmap::IndexMap;
 use std::alloc::{AllocError, Global};
 
@@ -73,6 +73,23 @@ pub(crate) fn place_of(index: &Index, name: Name) -> Option<Place>
     ensures { result ≡ map.get (index_of index.now.entries) name }
 {
     index.get(&name).copied()
+}
+
+/// The place of a name. Looks near the places of names that were found last.
+pub(crate) fn place_near(index: &Index, nearby: &Nearby, name: Name) -> Option<Place>
+    ensures { result ≡ map.get (index_of index.now.entries) name }
+{
+    nearby.get(index, name).copied()
+}
+
+/// Brings the names into ascending order, if there is memory for it: names that are asked for in this order are beside one
+/// another then.
+pub(crate) fn put_in_order(index: &mut Index)
+    ensures { index_of index.new.entries ≡ index_of index.old.entries }
+{
+    let Ok(()) = index.sort_unstable_keys() else {
+        return;
+    };
 }
 
 /// Sets the place of a name.

@@ -1,7 +1,7 @@
-ghost use Rattle.std.specs.Prelude.{◌≡◌, ◌+◌, ◌<◌, ◌≤◌, IsTrue, IfOk, OnOk, codes, false, length, string_bytes};
+ghost use Rattle.std.specs.Prelude.{◌≡◌, ◌+◌, ◌<◌, ◌≤◌, ℕ, IsTrue, IfOk, OnOk, codes, false, length, string_bytes};
 ghost use Rattle.devices.specs.Device.{files_of};
 ghost use Rattle.packed_store.specs.Lasting.{AreSure, HasSureNames, IsUnfailed};
-ghost use Rattle.packed_store.specs.Place.{EndsWith, Grows, KeepsOthers, bytes_at, segment_of, segment_path};
+ghost use Rattle.packed_store.specs.Place.{AreWithin, EndsWith, Grows, KeepsOthers, bytes_at, segment_of, segment_path};
 
 use crate::calls::{append_to, remove_at};
 use crate::next_segment::segment_after;
@@ -45,6 +45,9 @@ pub(crate) struct Log<D: Device> {
     ghost end_is: { is_torn ≡ false → IsTrue (D.honest device) → length (segment_of (files_of (D.past device)) segment) ≡ end },
     ghost numbered: { 0 < first },
     ghost order: { unsynced ≤ segment },
+    ghost within: { IsTrue (D.honest device) → AreWithin (files_of (D.past device)) first segment },
+    ghost ahead: { (n : ℕ) → segment ≤ n → 0 < n → first ≤ n },
+    ghost begun: { is_torn ≡ false → 0 < segment },
     ghost below: { IsTrue (D.honest device) → IsUnfailed (D.past device) → AreSure (D.past device) first unsynced },
     ghost clean: { is_dirty ≡ false → IsTrue (D.honest device) → IsUnfailed (D.past device) → AreSure (D.past device) first (segment + 1) },
     ghost known: { is_dirty ≡ false → is_new ≡ false },
@@ -59,7 +62,10 @@ impl<D: Device + Drop> Log<D> {
         extent: Extent,
         owes_undo: bool,
     ) -> Result<Log<D>, DeviceFault>
-        requires { extent.last.is_torn ≡ false → IsTrue (D.honest device) → length (segment_of (files_of (D.past device)) extent.last.segment) ≡ extent.last.end }
+        requires within { IsTrue (D.honest device) → AreWithin (files_of (D.past device)) extent.first extent.last.segment }
+        requires ahead { (n : ℕ) → extent.last.segment ≤ n → 0 < n → extent.first ≤ n }
+        requires begun { extent.last.is_torn ≡ false → 0 < extent.last.segment }
+        requires counted { extent.last.is_torn ≡ false → IsTrue (D.honest device) → length (segment_of (files_of (D.past device)) extent.last.segment) ≡ extent.last.end }
         ensures { IfOk result (λ log. log.device ≡ device) }
     {
         let last = extent.last;
@@ -206,10 +212,11 @@ impl<D: Device> Log<D> {
         self.is_torn = true;
     }
 
-    /// Removes a segment, all before which are removed. The last one is kept. The next sync keeps the removal, so that a loss of
+    /// Removes the first segment. The last one is kept. The next sync keeps the removal, so that a loss of
     /// power undoes none while a later one lasts.
     pub(crate) fn remove_segment(&mut self, alloc: Global, segment: u32) -> Result<(), DeviceFault>
-        requires { self.old.is_dirty ≡ false }
+        requires synced { self.old.is_dirty ≡ false }
+        requires first { segment ≡ self.old.first }
         ensures others { IsTrue (D.honest self.old.device) → KeepsOthers segment (files_of (D.past self.old.device)) (files_of (D.past self.new.device)) }
         ensures honest { D.honest self.new.device ≡ D.honest self.old.device }
     {

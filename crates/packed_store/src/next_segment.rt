@@ -1,4 +1,4 @@
-ghost use Rattle.std.specs.Prelude.{◌≡◌, ◌≤◌, IsTrue, IfOk, true, length};
+ghost use Rattle.std.specs.Prelude.{◌≡◌, ◌<◌, ◌≤◌, IsTrue, IfOk, true, length};
 ghost use Rattle.devices.specs.Device.{files_of};
 ghost use Rattle.packed_store.specs.Place.{segment_of};
 
@@ -20,6 +20,7 @@ fn is_blank<D: Device>(device: &D, alloc: Global, segment: u32) -> Result<bool, 
 fn next_segment<D: Device>(device: &D, alloc: Global, segment: u32) -> Result<u32, DeviceFault>
     ensures empty { IsTrue (D.honest device.now) → IfOk result (λ next. length (segment_of (files_of (D.past device.now)) next) ≡ 0) }
     ensures later { IfOk result (λ next. segment ≤ next) }
+    ensures begun { IfOk result (λ next. 0 < next) }
 {
     if segment >= LAST_SEGMENT {
         return Err(DeviceFault::Device);
@@ -41,6 +42,7 @@ pub(crate) fn segment_after<D: Device>(
 ) -> Result<u32, DeviceFault>
     ensures empty { IsTrue (D.honest device.now) → IfOk result (λ next. length (segment_of (files_of (D.past device.now)) next) ≡ 0) }
     ensures later { IfOk result (λ next. segment ≤ next) }
+    ensures begun { IfOk result (λ next. 0 < next) }
 {
     if segment == 0 {
         return next_segment(device, alloc, 0);

@@ -2,21 +2,21 @@ ghost use Rattle.std.specs.Prelude.{◌≡◌, ℕ, List, IfOk, IsErr, IsTrue, O
 ghost use Rattle.std.specs.FinMap as map;
 ghost use Rattle.devices.specs.Device.{files_of};
 ghost use Rattle.packed_store.specs.Contents.{contents_in};
-ghost use Rattle.packed_store.specs.Lasting.{AreLasting, HasSegment, IsUnfailed};
+ghost use Rattle.packed_store.specs.Lasting.{AllLast, AreLasting, HasSegment, IsUnfailed};
 ghost use Rattle.packed_store.specs.Opening.{Opens};
 ghost use Rattle.packed_store.specs.Place.{AreRecorded, index_of};
 ghost use Rattle.packed_store.specs.Stored.{IsWritten};
 
 use crate::compaction::make_space;
 use crate::found::Found;
-use crate::index::{Index, are_few_in};
+use crate::index::{Index, are_few_in, put_in_order};
 use crate::log::Log;
 use crate::storing::{
     list_names, put_file, put_sealed, read_file, remove_file, settle_removed, sync_all, sync_some,
 };
 use crate::survey::survey;
 use devices::{Device, DeviceFault};
-use git_name::{Hashing, Name, Sealed};
+use git_name::{Hashing, Name, Nearby, Sealed};
 use host_folder::{Gate, answered, of_device};
 use loose_store::{FileFault, LooseFiles};
 use std::alloc::{AllocError, Global};
@@ -32,6 +32,7 @@ use std::alloc::{AllocError, Global};
 pub struct Segments<D: Device> {
     log: Log<D>,
     index: Index,
+    nearby: Nearby,
     has_removed: bool,
     // Whether another step towards fewer bytes is worth while.
     is_sparse: bool,
@@ -57,9 +58,12 @@ impl<D: Device + Drop> Segments<D> {
         let owes_undo = found.owes_undo();
         found.undo()?;
         let log = Log::resume(device, alloc, extent, owes_undo)?;
+        let mut index = found.live;
+        put_in_order(&mut index);
         Ok(Segments {
             log,
-            index: found.live,
+            index,
+            nearby: Nearby::new(),
             has_removed: false,
             is_sparse: false,
             failures: 0,
@@ -108,7 +112,7 @@ impl<D: Device> LooseFiles for Segments<D> {
     ghost failures = { λ store. store.failures };
 
     fn get(&mut self, alloc: Global, name: Name) -> Result<Option<Vec<u8>>, FileFault> {
-        let answer = read_file(&self.log, &self.index, alloc, name);
+        let answer = read_file(&self.log, &self.index, &self.nearby, alloc, name);
         answered(&mut self.failures, answer)
     }
 
@@ -147,6 +151,7 @@ impl<D: Device> LooseFiles for Segments<D> {
         ensures honest { D.honest self.new.log.device ≡ D.honest self.old.log.device }
         ensures failures { self.new.failures ≡ self.old.failures }
         ensures lasts { IsTrue (D.honest self.old.log.device) → IsUnfailed (D.past self.old.log.device) → OnOk result (HasSegment (D.past self.new.log.device) → AreLasting (D.past self.new.log.device) self.old.log.first self.old.log.segment) }
+        ensures all { IsTrue (D.honest self.old.log.device) → IsUnfailed (D.past self.old.log.device) → OnOk result (HasSegment (D.past self.new.log.device) → AllLast (D.past self.new.log.device)) }
         ensures failed { self.old.log.has_failed ≡ true → IsErr result }
     {
         match sync_all(&mut self.log, &self.index, alloc) {

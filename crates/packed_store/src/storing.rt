@@ -7,26 +7,27 @@ ghost use Rattle.loose_store.specs.Files.{SameBut};
 ghost use Rattle.packed_store.specs.Appended.{IsAppended, IsRemoved};
 ghost use Rattle.packed_store.specs.Contents.{contents_in};
 ghost use Rattle.packed_store.specs.Entry.{Settled, Undone};
-ghost use Rattle.packed_store.specs.Lasting.{AreLasting, HasSegment, IsUnfailed};
+ghost use Rattle.packed_store.specs.Lasting.{AllLast, AreLasting, HasSegment, IsUnfailed};
 ghost use Rattle.packed_store.specs.Place.{AreRecorded, index_of};
 ghost use Rattle.packed_store.specs.Stored.{IsWritten};
 
-use crate::index::{Index, make_room, names_in, place_of, remove_place, set_place};
+use crate::index::{Index, make_room, names_in, place_near, place_of, remove_place, set_place};
 use crate::log::Log;
 use devices::{Device, DeviceFault};
-use git_name::{Name, Sealed};
+use git_name::{Name, Nearby, Sealed};
 use std::alloc::Global;
 
 /// The file of a name, if there is one.
 pub(crate) fn read_file<D: Device>(
     log: &Log<D>,
     index: &Index,
+    nearby: &Nearby,
     alloc: Global,
     name: Name,
 ) -> Result<Option<Vec<u8>>, DeviceFault>
     ensures { IsTrue (D.honest log.now.device) → IfOk result (λ found. option_map (λ bytes. bytes.items) found ≡ map.get (contents_in (D.honest log.now.device) (D.past log.now.device) (index_of index.now.entries)) name) }
 {
-    let Some(place) = place_of(index, name) else {
+    let Some(place) = place_near(index, nearby, name) else {
         return Ok(None);
     };
     let bytes = log.read(alloc, place)?;
@@ -113,6 +114,7 @@ pub(crate) fn sync_all<D: Device>(
     alloc: Global,
 ) -> Result<(), DeviceFault>
     ensures lasts { IsTrue (D.honest log.old.device) → IsUnfailed (D.past log.old.device) → OnOk result (HasSegment (D.past log.new.device) → AreLasting (D.past log.new.device) log.new.first log.new.segment) }
+    ensures all { IsTrue (D.honest log.old.device) → IsUnfailed (D.past log.old.device) → OnOk result (HasSegment (D.past log.new.device) → AllLast (D.past log.new.device)) }
     ensures failed { log.old.has_failed ≡ true → result ≡ Err DeviceFault.Device }
     ensures first { log.new.first ≡ log.old.first }
     ensures segment { log.new.segment ≡ log.old.segment }

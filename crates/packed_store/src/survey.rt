@@ -1,10 +1,11 @@
 // What the segments of a device have.
 ghost use Rattle.std.specs.Prelude.{◌≡◌, ◌+◌, ◌<◌, ◌≤◌, ℕ, IsTrue, IfOk, IfSome, IfNone, OnOk, None, drop, false, true, length};
 ghost use Rattle.devices.specs.Device.{Files, files_of};
-ghost use Rattle.packed_store.specs.Opening.{Adds, Surveys, listed};
+ghost use Rattle.packed_store.specs.Opening.{Adds, AreNumbersWithin, Surveys, listed};
 ghost use Rattle.packed_store.specs.Place.{IsNumbered, bytes_of, segment_of};
 ghost use Rattle.packed_store.specs.Stored.{AllWritten, IsPart};
 ghost use Rattle.packed_store.specs.Survey.{shown_in};
+ghost use Rattle.packed_store.specs.Numbered.{IsCalled};
 ghost use Rattle.packed_store.specs.Taking.{Reads, ReadsAll, Takes, seen_in};
 
 use crate::found::Found;
@@ -189,6 +190,7 @@ fn survey_segment<D: Device>(
 ) -> Result<Last, DeviceFault>
     ensures written { IsTrue (D.honest device.now) → OnOk result (AllWritten (files_of (D.past device.now)) (shown_in found.old.live.entries found.old.pending.entries) → AllWritten (files_of (D.past device.now)) (shown_in found.new.live.entries found.new.pending.entries)) }
     ensures last { IsTrue (D.honest device.now) → IfOk result (λ last. length (segment_of (files_of (D.past device.now)) last.segment) ≡ last.end) }
+    ensures segment { IfOk result (λ last. last.segment ≡ segment) }
     ensures reads { IsTrue (D.honest device.now) → OnOk result (ReadsAll (segment_of (files_of (D.past device.now)) segment) segment (seen_in found.old.live.entries found.old.pending.entries false) (seen_in found.new.live.entries found.new.pending.entries found.new.is_damaged)) }
 {
     found.begin_segment();
@@ -234,6 +236,8 @@ fn survey_called<D: Device>(
 ) -> Result<Option<Last>, DeviceFault>
     ensures written { IsTrue (D.honest device.now) → OnOk result (AllWritten (files_of (D.past device.now)) (shown_in found.old.live.entries found.old.pending.entries) → AllWritten (files_of (D.past device.now)) (shown_in found.new.live.entries found.new.pending.entries)) }
     ensures last { IsTrue (D.honest device.now) → IfOk result (λ next. IfSome next (λ last. length (segment_of (files_of (D.past device.now)) last.segment) ≡ last.end)) }
+    ensures called { IfOk result (λ next. (n : ℕ) → IsNumbered called.now n → IsCalled next n) }
+    ensures begun { IfOk result (λ next. IfSome next (λ last. 0 < last.segment)) }
     ensures adds { IsTrue (D.honest device.now) → OnOk result (Adds (files_of (D.past device.now)) called.now (shown_in found.old.live.entries found.old.pending.entries) (shown_in found.new.live.entries found.new.pending.entries)) }
 {
     let Some(segment) = number_of(called) else {
@@ -251,14 +255,31 @@ fn bytes_in(next: Option<Last>) -> u64 {
     }
 }
 
-// The number of the first segment in a listing, and 1 if there is none.
-fn first_in(listing: &[Vec<u8>]) -> u32 {
-    for called in listing.iter() {
-        if let Some(segment) = number_of(called.as_slice()) {
-            return segment;
-        }
+// The least number of a segment, of the one so far and that of the next one.
+fn first_of(first: u32, next: Option<Last>) -> u32
+    ensures least { result ≤ first }
+    ensures within { IfSome next (λ one. result ≤ one.segment) }
+{
+    match next {
+        Some(last) => first.min(last.segment),
+        None => first,
     }
-    1
+}
+
+// The segment with the greatest number, of the one so far and the next one.
+fn last_of(last: Last, next: Option<Last>) -> Last
+    ensures most { last.segment ≤ result.segment }
+    ensures within { IfSome next (λ one. one.segment ≤ result.segment) }
+    ensures begun { (last.is_torn ≡ false → 0 < last.segment) → IfSome next (λ one. 0 < one.segment) → result.is_torn ≡ false → 0 < result.segment }
+    ensures counted { (files : Files) → (last.is_torn ≡ false → length (segment_of files last.segment) ≡ last.end) → IfSome next (λ one. length (segment_of files one.segment) ≡ one.end) → result.is_torn ≡ false → length (segment_of files result.segment) ≡ result.end }
+{
+    let Some(one) = next else {
+        return last;
+    };
+    if one.segment < last.segment {
+        return last;
+    }
+    one
 }
 
 /// Takes in the whole records of all segments, in the order of their numbers. Returns their extent.
@@ -269,6 +290,9 @@ pub(crate) fn survey<D: Device>(
 ) -> Result<Extent, DeviceFault>
     ensures written { IsTrue (D.honest device.now) → OnOk result (AllWritten (files_of (D.past device.now)) (shown_in found.old.live.entries found.old.pending.entries) → AllWritten (files_of (D.past device.now)) (shown_in found.new.live.entries found.new.pending.entries)) }
     ensures surveys { IsTrue (D.honest device.now) → OnOk result (Surveys (files_of (D.past device.now)) (listed (files_of (D.past device.now))) (shown_in found.old.live.entries found.old.pending.entries) (shown_in found.new.live.entries found.new.pending.entries)) }
+    ensures within { IsTrue (D.honest device.now) → IfOk result (λ extent. AreNumbersWithin (listed (files_of (D.past device.now))) extent.first extent.last.segment) }
+    ensures ahead { IfOk result (λ extent. (n : ℕ) → extent.last.segment ≤ n → 0 < n → extent.first ≤ n) }
+    ensures begun { IfOk result (λ extent. extent.last.is_torn ≡ false → 0 < extent.last.segment) }
     ensures last { IsTrue (D.honest device.now) → IfOk result (λ extent. extent.last.is_torn ≡ false → length (segment_of (files_of (D.past device.now)) extent.last.segment) ≡ extent.last.end) }
 {
     let mut last = Last {
@@ -276,13 +300,15 @@ pub(crate) fn survey<D: Device>(
         end: 0,
         is_torn: true,
     };
+    let mut first = u32::MAX;
     let mut total: u64 = 0;
     let listing = device.list(alloc, SEGMENTS)?;
     for called in listing.iter() {
         let next = survey_called(device, alloc, called.as_slice(), found)?;
         total = total.saturating_add(bytes_in(next));
-        last = next.unwrap_or(last);
+        first = first_of(first, next);
+        last = last_of(last, next);
     }
-    let first = first_in(listing.as_slice());
+    let first = first.min(last.segment.max(1));
     Ok(Extent { last, first, total })
 }

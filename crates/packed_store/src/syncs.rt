@@ -1,7 +1,7 @@
 // The syncs of a log.
 ghost use Rattle.std.specs.Prelude.{◌≡◌, ◌+◌, Err, IsTrue, OnOk, codes, false, true};
 ghost use Rattle.devices.specs.Device.{files_of};
-ghost use Rattle.packed_store.specs.Lasting.{AreLasting, AreSure, HasSegment, HasSureBytes, HasSureNames, IsUnfailed, Narrows};
+ghost use Rattle.packed_store.specs.Lasting.{AllLast, AreLasting, AreSure, HasSegment, HasSureBytes, HasSureNames, IsUnfailed, Narrows};
 ghost use Rattle.packed_store.specs.Place.{segment_path};
 
 use crate::calls::{sync_bytes, sync_names};
@@ -160,12 +160,14 @@ impl<D: Device> Log<D> {
 
     // Where nothing is marked as not synced, all segments last.
     fn lasting(&self)
-        ensures { self.now.is_dirty ≡ false → IsTrue (D.honest self.now.device) → IsUnfailed (D.past self.now.device) → HasSegment (D.past self.now.device) → AreLasting (D.past self.now.device) self.now.first self.now.segment }
+        ensures lasts { self.now.is_dirty ≡ false → IsTrue (D.honest self.now.device) → IsUnfailed (D.past self.now.device) → HasSegment (D.past self.now.device) → AreLasting (D.past self.now.device) self.now.first self.now.segment }
+        ensures all { self.now.is_dirty ≡ false → IsTrue (D.honest self.now.device) → IsUnfailed (D.past self.now.device) → HasSegment (D.past self.now.device) → AllLast (D.past self.now.device) }
     {}
 
     /// Makes all records survive a loss of power.
     pub(crate) fn sync(&mut self, alloc: Global) -> Result<(), DeviceFault>
         ensures lasts { IsTrue (D.honest self.old.device) → IsUnfailed (D.past self.old.device) → OnOk result (HasSegment (D.past self.new.device) → AreLasting (D.past self.new.device) self.new.first self.new.segment) }
+        ensures all { IsTrue (D.honest self.old.device) → IsUnfailed (D.past self.old.device) → OnOk result (HasSegment (D.past self.new.device) → AllLast (D.past self.new.device)) }
         ensures failed { self.old.has_failed ≡ true → result ≡ Err DeviceFault.Device }
         ensures first { self.new.first ≡ self.old.first }
         ensures segment { self.new.segment ≡ self.old.segment }

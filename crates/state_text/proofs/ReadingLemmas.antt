@@ -192,7 +192,7 @@ first_read first now old new version nothing takes is = record {
 
 -- the text was read to its end
 pub whole_read : (first before mid after : Option (List ℕ)) (old new : Lines) (version : Version) (states : States) (number : ℕ) (name : List ℕ) → IsReadTo first before old version (all_of states) number → TakesLine before mid old new → new.line.items ≡ codes "end"
-    → EndsAt mid after new name → ReadsText first after states name
+    → EndsAt mid after new name → ReadsText first after states name version
 whole_read first before mid after old new version states number name so_far takes is_end ends =
     let done = flat_map ended (told_lines version states) in
     let whole = ends.whole first (done ++ ended new.line.items) (takes.goes_on first done so_far.taken) in
@@ -200,7 +200,7 @@ whole_read first before mid after old new version states number name so_far take
       text = done ++ ended new.line.items;
       consumed = whole.consumed;
       ends = whole.ends;
-      right = of_version version states (done ++ ended new.line.items) (record { right = so_far.right.right; tells = so_far.right.tells; spelled = ap (λ l. done ++ ended l) is_end ∙ text_ends version states });
+      right = record { right = so_far.right.right; tells = so_far.right.tells; spelled = ap (λ l. done ++ ended l) is_end ∙ text_ends version states };
       named = whole.named;
     }
 
@@ -215,15 +215,15 @@ beyond_end (Some text) before mid old new version states number so_far takes is_
     (behind_end version text (new.line.items ++ 10 ∷ behind.behind) new.line.items behind.behind states (length (told_lines version states)) (line_in text before mid old new version (all_of states) number behind.behind so_far behind.parts) refl is_end behind.some)
 
 -- a whole text that was read is all that the reader had
-whole_text : (text : List ℕ) (after : Option (List ℕ)) (states : States) (name : List ℕ) → ReadsText (Some text) after states name → IsStateText states text
-whole_text text None states name reads = absurd reads.consumed
-whole_text text (Some left) states name reads = subst (IsStateText states) (sym (reads.consumed ∙ ap (λ t. reads.text ++ t) reads.ends ∙ append-nil reads.text)) reads.right
+whole_text : (text : List ℕ) (after : Option (List ℕ)) (states : States) (name : List ℕ) (version : Version) → ReadsText (Some text) after states name version → IsStateText states text
+whole_text text None states name version reads = absurd reads.consumed
+whole_text text (Some left) states name version reads = subst (IsStateText states) (sym (reads.consumed ∙ ap (λ t. reads.text ++ t) reads.ends ∙ append-nil reads.text)) (of_version version states reads.text reads.right)
 
 -- a state text is read, unless the reader fails or memory runs out
-pub reads_only : (first after : Option (List ℕ)) (result : Result (States × List ℕ) StateFault) → IfOk result (λ read. ReadsText first after read.0 read.1) → IfSome first (λ text. IfErr result (TellsLine text))
+pub reads_only : (first after : Option (List ℕ)) (result : Result (States × List ℕ × Version) StateFault) → IfOk result (λ read. ReadsText first after read.0 read.1 read.2) → IfSome first (λ text. IfErr result (TellsLine text))
     → IfSome first (λ text. (states : States) → IsStateText states text → IfOk result (λ read. read.0 ≡ states) × IfErr result IsNoWrongLine)
 reads_only None after result found exact = tt
-reads_only (Some text) after (Ok read) found exact = λ states is. (one_value read.0 states text (whole_text text after read.0 read.1 found) is, tt)
+reads_only (Some text) after (Ok read) found exact = λ states is. (one_value read.0 states text (whole_text text after read.0 read.1 read.2 found) is, tt)
 reads_only (Some text) after (Err (Line n)) found exact = λ states is. absurd (none_wrong states text n is exact)
 reads_only (Some text) after (Err Read) found exact = λ states is. (tt, tt)
 reads_only (Some text) after (Err Memory) found exact = λ states is. (tt, tt)

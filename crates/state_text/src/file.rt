@@ -10,7 +10,7 @@ ghost use Rattle.state_text.specs.declared.version.Version.TheVariants.{Two};
 use crate::states::States;
 use crate::waiting::Spelled;
 use crate::writing::write;
-use devices::{Device, FileSink};
+use devices::{Device, DeviceFault, FileSink};
 use std::alloc::Global;
 use std::io;
 
@@ -34,13 +34,13 @@ fn append_text<D: Device>(
 }
 
 /// Writes the text of the states into a file of a device, anew and in version 2, and syncs it. After an `Err` a front of the
-/// text may be in the file.
+/// text may be in the file, or all of it, unsynced. `Unopened` if the file could not be opened to be written or synced.
 pub fn write_file<D: Device>(
     alloc: Global,
     states: &States,
     device: &mut D,
     path: &str,
-) -> io::Result<Spelled>
+) -> Result<Spelled, DeviceFault>
     ensures part { IsTrue (D.honest device.old) → WritesPart path.now (D.past device.old) (D.past device.new) }
     ensures text { IsTrue (D.honest device.old) → OnOk result (IsWritten path.now (state_text Two states.now) (D.past device.old) (D.past device.new)) }
     ensures name { IfOk result (λ spelled. spelled.name ≡ sha256 (state_text Two states.now)) }

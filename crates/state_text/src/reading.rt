@@ -16,12 +16,12 @@ use git_name::Name;
 use std::alloc::Global;
 use std::io::Read;
 
-/// Reads the states from a text of either version, and the SHA-256 of the text. It reads the whole text, in pieces of some
-/// 16 KiB, which need not be buffered. Its time is linear in the text's length, plus a few lookups in a map for each
-/// reference.
-pub fn read<R: Read>(alloc: Global, reader: &mut R) -> Result<(States, Name), StateFault>
+/// Reads the states from a text of either version, the SHA-256 of the text, and its version. It reads the whole text, in
+/// pieces of some 16 KiB, which need not be buffered. Its time is linear in the text's length, plus a few lookups in a map
+/// for each reference.
+pub fn read<R: Read>(alloc: Global, reader: &mut R) -> Result<(States, Name, Version), StateFault>
     // The text spells what is read.
-    ensures found { IfOk result (λ read. ReadsText (R.remaining reader.old) (R.remaining reader.new) read.0 read.1) }
+    ensures found { IfOk result (λ read. ReadsText (R.remaining reader.old) (R.remaining reader.new) read.0 read.1 read.2) }
     // A state text is read, unless the reader fails or memory runs out.
     ensures only { IfSome (R.remaining reader.old) (λ text. (states : value.States) → IsStateText states text → IfOk result (λ read. read.0 ≡ states) × IfErr result IsNoWrongLine) }
     // The fault gives the wrong line.
@@ -31,8 +31,8 @@ pub fn read<R: Read>(alloc: Global, reader: &mut R) -> Result<(States, Name), St
 }
 
 // The states, line by line.
-fn read_lines<R: Read>(alloc: Global, reader: &mut R) -> Result<(States, Name), StateFault>
-    ensures found { IfOk result (λ read. ReadsText (R.remaining reader.old) (R.remaining reader.new) read.0 read.1) }
+fn read_lines<R: Read>(alloc: Global, reader: &mut R) -> Result<(States, Name, Version), StateFault>
+    ensures found { IfOk result (λ read. ReadsText (R.remaining reader.old) (R.remaining reader.new) read.0 read.1 read.2) }
     ensures exact { IfSome (R.remaining reader.old) (λ text. IfErr result (TellsLine text)) }
 {
     let mut lines = Lines::new(alloc);
@@ -54,7 +54,7 @@ fn read_lines<R: Read>(alloc: Global, reader: &mut R) -> Result<(States, Name), 
             let Some(name) = lines.end(alloc, reader)? else {
                 return Err(StateFault::Line(number + 1));
             };
-            return Ok((states, name));
+            return Ok((states, name, version));
         }
         match take_line(alloc, version, &mut states, awaits, lines.line.as_slice()) {
             Ok(more) => awaits = more,

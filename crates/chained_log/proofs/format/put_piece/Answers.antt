@@ -15,7 +15,7 @@ returns-clause-bytes g c =
     c.clear.ensures.items c.in_ok-extend_from_slice.ensures.items c.in_ok-extend_from_slice-2.ensures.items c.in_ok-extend_from_slice-3.ensures.items c.in_ok-extend_from_slice-4.ensures.items
     (c.as_slice.ensures ∙ c.to_be_bytes.ensures) (c.as_slice-2.ensures ∙ c.head_of-head.ensures) (c.as_slice-3.ensures ∙ sum)
     in
-    subst (Appends (g.W.Write.contents c.args.writer.now) (g.W.Write.contents c.write_all.new.self)) (c.as_slice-4.ensures.value ∙ items) c.in_ok-write_all.ensures.bytes
+    subst (Appends (g.W.Sink.contents c.args.writer.now) (g.W.Sink.contents c.append.new.self)) (c.as_slice-4.ensures.value ∙ items) c.in_ok-append.ensures.bytes
 
 pub returns-clause-sum : goal.returns-clause-sum
 returns-clause-sum g c = c.sum_of_piece-sum.ensures ∙ sum_is OfDigest c.args.before.now c.args.piece.now c.head_of-head.result _ refl c.head_of-head.ensures

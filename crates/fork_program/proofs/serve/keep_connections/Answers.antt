@@ -3,23 +3,23 @@ use Rattle.fork_program.specs.Serving.{Unbound, Unready, Unsaved}
 use Rattle.fork_program.proofs.HostingLemmas.{deaf_or_lost, if_err_more, on_ok_always, saved_host}
 use Rattle.fork_program.proofs.serve.keep_connections.Goals as goal
 
-pub returns-in_err-keep-clause-err : goal.returns-in_err-keep-clause-err
-returns-in_err-keep-clause-err g c hosting host =
+pub returns-in_err-begun-clause-err : goal.returns-in_err-begun-clause-err
+returns-in_err-begun-clause-err g c hosting host =
     let told = err_from_is_err_and c.from_residual.result c.from_residual.ensures.1 in
-    rw (told.1, told.2) (Unready host.kept c.in_err-keep.ensures.cause _ host.of)
+    rw (told.1, told.2) (Unready host.kept c.in_err-begun.ensures.cause _ host.of)
 
 pub returns-in_err-show-clause-err : goal.returns-in_err-show-clause-err
 returns-in_err-show-clause-err g c hosting host =
     let told = err_from_is_err_and c.from_residual-in_err-show.result c.from_residual-in_err-show.ensures.1 in
-    rw (told.1, told.2) (Unbound _ (saved_host hosting _ _ host c.begin.ensures.saved) c.in_err-show.ensures)
+    rw (told.1, told.2) (Unbound _ (saved_host hosting _ _ host c.in_ok-begun.ensures.saved) c.in_err-show.ensures)
 
 pub returns-in-Ok-clause-ok : goal.returns-in-Ok-clause-ok
 returns-in-Ok-clause-ok g c hosting host =
-    on_ok_always c.end-saved.result (record { first = c.begin.new.host; last = c.serve_kept_at-served.new.host; host = saved_host hosting _ _ host c.begin.ensures.saved; served = rw c.in-Ok.is at c.serve_kept_at-served.ensures.ok })
+    on_ok_always c.end-saved.result (record { first = c.in_ok-begun.begun.0; last = c.serve_kept_at-served.new.host; host = saved_host hosting _ _ host c.in_ok-begun.ensures.saved; served = rw c.in-Ok.is at c.serve_kept_at-served.ensures.ok })
 
 pub returns-in-Ok-clause-err : goal.returns-in-Ok-clause-err
 returns-in-Ok-clause-err g c hosting host =
-    if_err_more c.end-saved.result (λ fault is. Unsaved host.kept is (record { first = c.begin.new.host; last = c.serve_kept_at-served.new.host; host = saved_host hosting _ _ host c.begin.ensures.saved; served = rw c.in-Ok.is at c.serve_kept_at-served.ensures.ok })) c.end-saved.ensures
+    if_err_more c.end-saved.result (λ fault is. Unsaved host.kept is (record { first = c.in_ok-begun.begun.0; last = c.serve_kept_at-served.new.host; host = saved_host hosting _ _ host c.in_ok-begun.ensures.saved; served = rw c.in-Ok.is at c.serve_kept_at-served.ensures.ok })) c.end-saved.ensures
 
 pub returns-clause-err : goal.returns-clause-err
-returns-clause-err g c hosting host = deaf_or_lost _ _ _ _ _ _ host.kept (saved_host hosting _ _ host c.begin.ensures.saved) (rw c.in-Err.is at c.serve_kept_at-served.ensures.err) (rw c.in-Err.is at c.serve_kept_at-served.ensures.cause)
+returns-clause-err g c hosting host = deaf_or_lost _ _ _ _ _ _ host.kept (saved_host hosting _ _ host c.in_ok-begun.ensures.saved) (rw c.in-Err.is at c.serve_kept_at-served.ensures.err) (rw c.in-Err.is at c.serve_kept_at-served.ensures.cause)

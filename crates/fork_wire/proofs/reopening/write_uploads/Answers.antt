@@ -12,6 +12,7 @@ loop-name-init g c = record {
   sent = λ trusted. none_written _;
   kept = λ trusted. refl;
   trusted = λ trusted. trusted;
+  rest = refl;
   shape = λ name. refl;
 }
 
@@ -23,9 +24,10 @@ loop-name-preserved g c =
       done = before.done ++ c.in-Some.name ∷ [];
       parts = append_assoc before.done (c.in-Some.name ∷ []) c.next.new.self.rest.items ∙ ap (λ rest. before.done ++ rest) (sym c.in-Some.ensures.steps.0) ∙ before.parts;
       sent = λ trusted. next_written world before.done c.in-Some.name _ _ _ (before.sent trusted)
-          (subst (λ (shown : World). Written (opened c.in-Some.name (upload_at shown c.in-Some.name)) (g.W.Write.contents c.loop-name.writer) (g.W.Write.contents c.write_upload_of.new.writer)) (before.kept trusted) (c.in_ok-bytes.ensures.sent (before.trusted trusted)));
+          (subst (λ (shown : World). Written (opened c.in-Some.name (upload_at shown c.in-Some.name)) (g.W.Sink.contents c.loop-name.writer) (g.W.Sink.contents c.write_upload_of.new.writer)) (before.kept trusted) (c.in_ok-bytes.ensures.sent (before.trusted trusted)));
       kept = λ trusted. c.in_ok-bytes.ensures.kept (before.trusted trusted) ∙ before.kept trusted;
       trusted = λ trusted. c.in_ok-bytes.ensures.trusted (before.trusted trusted);
+      rest = c.in_ok-bytes.ensures.rest ∙ before.rest;
       shape = λ name. c.in_ok-bytes.ensures.shape name ∙ before.shape name;
     }
 

@@ -11,8 +11,9 @@ abbrev pub invariant-loop-name : goal.invariant-loop-name
 invariant-loop-name g l = record {
   done : List (List ℕ);
   parts : done ++ l.name-iterator.rest.items ≡ map (λ upload. upload.0) (uploads_of (world_of l.fn.host));
-  sent : Trusted l.fn.host → Written (uploads_by (world_of l.fn.host) done) (g.W.Write.contents l.fn.writer) (g.W.Write.contents l.writer);
+  sent : Trusted l.fn.host → Written (uploads_by (world_of l.fn.host) done) (g.W.Sink.contents l.fn.writer) (g.W.Sink.contents l.writer);
   kept : Trusted l.fn.host → world_of l.host ≡ world_of l.fn.host;
   trusted : Trusted l.fn.host → Trusted l.host;
+  rest : g.W.Sink.rest l.writer ≡ g.W.Sink.rest l.fn.writer;
   shape : (name : List ℕ) → SameShape name (world_of l.fn.host) (world_of l.host);
 }

@@ -10,3 +10,7 @@ returns-clause-there c past first last segment left lasting fits from to (names,
 pub returns-clause-gone : goal.returns-clause-gone
 returns-clause-gone c past first last segment left lasting fits none (names, may, stands) =
     lasting.gone segment fits none names may (get left (segment_path segment)) (stands (segment_path segment)) ∙ none
+
+pub returns-clause-all : goal.returns-clause-all
+returns-clause-all c past segment left lasting some fits (names, may, stands) =
+    lasting segment some fits names may (get left (segment_path segment)) (stands (segment_path segment))

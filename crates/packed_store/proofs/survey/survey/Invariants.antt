@@ -1,6 +1,6 @@
-use Rattle.std.proofs.Common.{◌≡◌, false, IsTrue, drop, length, map as each}
+use Rattle.std.proofs.Common.{◌≡◌, ◌≤◌, ◌<◌, ℕ, false, IsTrue, drop, length, map as each}
 use Rattle.devices.specs.Device.{files_of}
-use Rattle.packed_store.specs.Opening.{Surveys, listed}
+use Rattle.packed_store.specs.Opening.{AreNumbersWithin, Surveys, listed}
 use Rattle.packed_store.specs.Place.{segment_of}
 use Rattle.packed_store.specs.Stored.{AllWritten}
 use Rattle.packed_store.specs.Survey.{Shown, shown_in}
@@ -14,3 +14,7 @@ invariant-loop-called g l = (IsTrue (g.D.Device.honest l.fn.device) → l.last.i
     × (IsTrue (g.D.Device.honest l.fn.device)
     → (last : Shown) → Surveys (files_of (g.D.Device.past l.fn.device)) (each (λ called. called.items) (drop l.called-index l.called-items)) (shown_in l.found.live.entries l.found.pending.entries) last
     → Surveys (files_of (g.D.Device.past l.fn.device)) (listed (files_of (g.D.Device.past l.fn.device))) (shown_in l.fn.found.live.entries l.fn.found.pending.entries) last)
+    × (IsTrue (g.D.Device.honest l.fn.device)
+    → (lo hi : ℕ) → lo ≤ l.first → l.last.segment ≤ hi → AreNumbersWithin (each (λ called. called.items) (drop l.called-index l.called-items)) lo hi
+    → AreNumbersWithin (listed (files_of (g.D.Device.past l.fn.device))) lo hi)
+    × (l.last.is_torn ≡ false → 0 < l.last.segment)

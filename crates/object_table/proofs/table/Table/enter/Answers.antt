@@ -12,10 +12,10 @@ use Rattle.object_table.proofs.NumberLemmas.{fresh_number, fresh_row, kept_row, 
 use Rattle.object_table.proofs.PlaceLemmas.{listed_last, listed_lookup, listed_there, none_of}
 use Rattle.object_table.proofs.table.Table.enter.Goals as goal
 
-pub returns-then-contains_key-clause-listed : goal.returns-then-contains_key-clause-listed
-returns-then-contains_key-clause-listed c q =
+pub returns-then-has_row-clause-listed : goal.returns-then-has_row-clause-listed
+returns-then-has_row-clause-listed c q =
     subst (λ (s : TableState). is_listed (keys_of s.entries) q ≡ same_name c.args.name q || is_listed (keys_of s.entries) q) c.self.view_is
-    (listed_there c.self.inside.rows.entries c.args.name q (sym c.contains_key.ensures ∙ c.if-contains_key.true))
+    (listed_there c.self.inside.rows.entries c.args.name q (sym c.has_row.ensures ∙ c.if-has_row.true))
 
 pub returns-clause-listed : goal.returns-clause-listed
 returns-clause-listed c q =
@@ -35,7 +35,7 @@ returns-clause-grows c =
     let before : Places = record { names = keys_of old; place = c.self.inside.place } in
     let after : Places = record { names = keys_of c.put_last.new.rows.entries; place = c.self.inside.place } in
     subst (λ (s : TableState). GrowsAmong (name ∷ []) (places_of s) after) c.self.view_is
-    (grows_one name before after refl (ap keys_of is ∙ map-append (λ p. p.0) old ((name, row) ∷ [])) (listed_lookup old name ∙ sym c.contains_key.ensures ∙ c.if-contains_key.false))
+    (grows_one name before after refl (ap keys_of is ∙ map-append (λ p. p.0) old ((name, row) ∷ [])) (listed_lookup old name ∙ sym c.has_row.ensures ∙ c.if-has_row.false))
 
 pub returns-clause-kept : goal.returns-clause-kept
 returns-clause-kept c q other here =
@@ -43,7 +43,7 @@ returns-clause-kept c q other here =
     let row : Row = record { length = 0; holders = 0; number = c.index.result.now; kind = Blob } in
     let same : c.reserve.new.self.entries ≡ old = search rules in
     let is : c.put_last.new.rows.entries ≡ old ++ (c.args.name, row) ∷ [] = c.put_last.ensures.entries ∙ ap (λ es. es ++ (c.args.name, row) ∷ []) same in
-    let absent = none_of _ (sym c.contains_key.ensures ∙ c.if-contains_key.false) in
+    let absent = none_of _ (sym c.has_row.ensures ∙ c.if-has_row.false) in
     ap (λ es. row_in es q) is ∙ kept_row old c.args.name row q other absent (ap (λ (s : TableState). row_in s.entries q) c.self.view_is ∙ here)
 
 pub returns-clause-fresh : goal.returns-clause-fresh
@@ -52,7 +52,7 @@ returns-clause-fresh c q other none here =
     let row : Row = record { length = 0; holders = 0; number = c.index.result.now; kind = Blob } in
     let same : c.reserve.new.self.entries ≡ old = search rules in
     let is : c.put_last.new.rows.entries ≡ old ++ (c.args.name, row) ∷ [] = c.put_last.ensures.entries ∙ ap (λ es. es ++ (c.args.name, row) ∷ []) same in
-    let absent = none_of _ (sym c.contains_key.ensures ∙ c.if-contains_key.false) in
+    let absent = none_of _ (sym c.has_row.ensures ∙ c.if-has_row.false) in
     let numbers = c.extend.new.numbers.items in
     let room : length old < length numbers = (let r = c.in_ok-extend.ensures.ok in let l = c.len-at.ensures.len in omega (arith, r, l)) in
     let number : c.index.result.now ≡ get_or numbers (length old) 0 = get_or_read_under numbers c.len-at.result _ c.index.result.now 0 c.index.ensures (c.in_ok-extend.ensures.ok) refl ∙ ap (λ n. get_or numbers n 0) c.len-at.ensures.len in
@@ -66,7 +66,7 @@ invariant_of-self-2 c =
     let row : Row = record { length = 0; holders = 0; number = c.index.result.now; kind = Blob } in
     let same : c.reserve.new.self.entries ≡ old = search rules in
     let is : c.put_last.new.rows.entries ≡ old ++ (c.args.name, row) ∷ [] = c.put_last.ensures.entries ∙ ap (λ es. es ++ (c.args.name, row) ∷ []) same in
-    let absent = none_of _ (sym c.contains_key.ensures ∙ c.if-contains_key.false) in
+    let absent = none_of _ (sym c.has_row.ensures ∙ c.if-has_row.false) in
     let numbers = c.extend.new.numbers.items in
     let room : length old < length numbers = (let r = c.in_ok-extend.ensures.ok in let l = c.len-at.ensures.len in omega (arith, r, l)) in
     let number : c.index.result.now ≡ get_or numbers (length old) 0 = get_or_read_under numbers c.len-at.result _ c.index.result.now 0 c.index.ensures (c.in_ok-extend.ensures.ok) refl ∙ ap (λ n. get_or numbers n 0) c.len-at.ensures.len in

@@ -1,6 +1,7 @@
-use Rattle.std.proofs.Common.{rules, ap, length, ◌≡◌, ◌<◌, ◌+◌, ◌^◌, sym, ◌∙◌}
+use Rattle.std.proofs.Common.{rules, arith, ap, length, ◌≡◌, ◌<◌, ◌+◌, ◌^◌, sym, ◌∙◌}
 use Rattle.devices.specs.Device.{files_of}
 use Rattle.packed_store.proofs.LastingLemmas.{all_grown, end_grown, names_appended}
+use Rattle.packed_store.proofs.WithinLemmas.{within_grown}
 use Rattle.packed_store.proofs.log.Log.append.Goals as goal
 
 pub invariant_of-self-in-Break-1 : goal.invariant_of-self-in-Break-1
@@ -12,6 +13,12 @@ invariant_of-self-in-Break-1 g c =
       end_is = search rules;
       numbered = search rules;
       order = search rules;
+      within = λ honest.
+          let then = sym c.append_to.ensures.honest ∙ honest in
+          within_grown log.segment log.first c.as_str.result.now c.as_slice.result.now (g.D.Device.past log.device) (g.D.Device.past c.append_to.new.device) c.append_to.result
+          (c.as_str.ensures.value ∙ log.path_is c.requires) small (log.ahead log.segment (omega arith) (log.begun c.requires)) (c.append_to.ensures.effect then) (log.within then);
+      ahead = search rules;
+      begun = search rules;
       below = λ honest.
           let then = sym c.append_to.ensures.honest ∙ honest in
           all_grown log.segment log.first log.unsynced c.as_str.result.now c.as_slice.result.now (g.D.Device.past log.device) (g.D.Device.past c.append_to.new.device) c.append_to.result
@@ -38,6 +45,12 @@ invariant_of-self-2 g c =
           (c.as_str.ensures.value ∙ log.path_is c.requires) (c.in_ok-append_to.ensures.added then) (log.end_is c.requires then) (counted ∙ ap (λ n. log.end + n) (sized ∙ ap length (sym c.as_slice.ensures.value)));
       numbered = search rules;
       order = search rules;
+      within = λ honest.
+          let then = sym c.append_to.ensures.honest ∙ honest in
+          within_grown log.segment log.first c.as_str.result.now c.as_slice.result.now (g.D.Device.past log.device) (g.D.Device.past c.append_to.new.device) c.append_to.result
+          (c.as_str.ensures.value ∙ log.path_is c.requires) small (log.ahead log.segment (omega arith) (log.begun c.requires)) (c.append_to.ensures.effect then) (log.within then);
+      ahead = search rules;
+      begun = search rules;
       below = λ honest.
           let then = sym c.append_to.ensures.honest ∙ honest in
           all_grown log.segment log.first log.unsynced c.as_str.result.now c.as_slice.result.now (g.D.Device.past log.device) (g.D.Device.past c.append_to.new.device) c.append_to.result

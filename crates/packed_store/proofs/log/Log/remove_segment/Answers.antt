@@ -2,6 +2,7 @@ use Rattle.std.proofs.Common.{rules, ◌<◌, ◌^◌, arith, refl, sym, ◌∙�
 use Rattle.devices.specs.Device.{files_of}
 use Rattle.packed_store.proofs.LastingLemmas.{all_taken}
 use Rattle.packed_store.proofs.RemovalLemmas.{end_kept, segments_kept}
+use Rattle.packed_store.proofs.WithinLemmas.{within_behind, within_less}
 use Rattle.packed_store.proofs.log.Log.remove_segment.Goals as goal
 
 pub invariant_of-self : goal.invariant_of-self
@@ -16,6 +17,12 @@ invariant_of-self g c = record {
       (c.remove_at.ensures.others first) (search rules);
   numbered = search rules;
   order = search rules;
+  within = λ honest.
+      let first = sym c.remove_at.ensures.honest ∙ honest in
+      let log = c.args.self.now in
+      within_less c.as_str-2.result.now log.first log.segment (g.D.Device.past log.device) (g.D.Device.past c.remove_at.new.device) c.remove_at.result (c.remove_at.ensures.effect first) (log.within first);
+  ahead = search rules;
+  begun = search rules;
   below = λ honest.
       let first = sym c.remove_at.ensures.honest ∙ honest in
       let log = c.args.self.now in
@@ -38,6 +45,12 @@ invariant_of-self-2 g c = record {
       (c.remove_at.ensures.others first) (search rules);
   numbered = search rules;
   order = search rules;
+  within = λ honest.
+      let first = sym c.remove_at.ensures.honest ∙ honest in
+      let log = c.args.self.now in
+      within_behind log.first log.segment _ c.as_str-2.result.now (g.D.Device.past log.device) (g.D.Device.past c.remove_at.new.device) (search rules) (search rules) (search rules) (log.within first);
+  ahead = search rules;
+  begun = search rules;
   below = λ honest.
       let first = sym c.remove_at.ensures.honest ∙ honest in
       let log = c.args.self.now in

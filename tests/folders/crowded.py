@@ -313,10 +313,10 @@ def show_synced(checks, program, work):
 
 
 def show_failed_sync(checks, program, work):
-    """If a sync fails, the reply does not go out, and serving ends. The first two are those of the reserve and of the
-    state."""
+    """If a sync fails, the reply does not go out, and serving ends. The first three are those of the reserve, of the state
+    and of its journal."""
     for label, words in {"in turn": ["--sync"], "at once": ["--sync", "--at-once", "8"]}.items():
-        kept, fails = os.path.join(work, f"kept {label}"), ["-e", "inject=fdatasync:error=EIO:when=4"]
+        kept, fails = os.path.join(work, f"kept {label}"), ["-e", "inject=fdatasync:error=EIO:when=5"]
         traced = Traced(program, os.path.join(work, f"calls {label}"), *fails)
         serving = Serving(traced, os.path.join(work, "socket"), 2, "--dir", kept, *words, *TENANTS)
         with serving.client() as stream:

@@ -16,14 +16,19 @@ from losses.syncing import MADE, SEGMENTS, kinds_of
 SECTOR = 512
 NEAR = 200
 LIKELY = [0, 0.1, 0.5, 0.9, 1]
+# What is left beyond the definition: ext4 without ordered data does the first, and of segments a start is asked for more.
+ZEROS, TORN = "zero bytes stand for lost ones", "bytes of a segment are lost from within"
 KEPT, LOST, MIXED, ONE = "all is kept", "all is lost", "some is lost", "one is lost"
 
 
 class Left(NamedTuple):
-    """A folder, and of each file at whose end zero bytes stand for lost ones its path, its length without them, and their number."""
+    """A folder, and of each file at whose end zero bytes stand for lost ones its path, its length without them, and their number.
+    Also of each file that has bytes which the definition of a device does not allow (crates/devices/specs/Crash.antt: bytes that
+    were appended are lost from behind), its path, its length without them, and why the recorder leaves them."""
 
     tree: dict
     zeros: dict
+    beyond: dict
 
 
 def syncs_of(events):
@@ -129,6 +134,11 @@ def segment_left(chance, content):
     return bytes(content.synced) + torn(chance, content.written[len(content.synced) :]), b""
 
 
+def same_front(data, other):
+    """How many bytes are the same in both."""
+    return next((at for at, (one, two) in enumerate(zip(data, other)) if one != two), min(len(data), len(other)))
+
+
 def left(chance, model, past, events):
     """What may be left after these events, the first ones of a past."""
     synced = syncs_of(events)
@@ -136,12 +146,26 @@ def left(chance, model, past, events):
     contents = contents_of(past, events)
     lost = lose(chance, [file for file, content in contents.items() if not content.is_known])
     data = {file: (bytes(content.written), b"") for file, content in contents.items()}
-    kinds = kinds_of(past)
+    kinds, torn_at = kinds_of(past), {}
     for file in sorted(lost):
         is_segment = kinds.get(file) in (SEGMENTS, MADE)
         data[file] = segment_left(chance, contents[file]) if is_segment else bytes_left(chance, model, contents[file])
-    zeros = {}
-    return Left(tree_at(names, data, zeros, ROOT, b""), zeros)
+        if is_segment and contents[file].synced and not contents[file].written.startswith(data[file][0]):
+            torn_at[file] = same_front(data[file][0], contents[file].written)
+    zeros, beyond = {}, {}
+    tree = tree_at(names, data, zeros, ROOT, b"")
+    beyond.update((path, (length, ZEROS)) for path, (length, _) in zeros.items())
+    beyond.update((path, (torn_at[file], TORN)) for path, file in paths_at(names, ROOT, b"") if file in torn_at)
+    return Left(tree, zeros, beyond)
+
+
+def paths_at(names, inode, path):
+    """The files in a folder, each with its path."""
+    for name, inner in names[inode].items():
+        if inner in names:
+            yield from paths_at(names, inner, path + b"/" + name)
+        else:
+            yield path + b"/" + name, inner
 
 
 def tree_at(names, data, zeros, inode, path):

@@ -6,6 +6,7 @@ import shutil
 from collections import Counter
 from typing import NamedTuple
 
+from losses.comparing import Compared
 from losses.judging import Judge
 from losses.knowing import Known
 from losses.leaving import Left, left
@@ -32,11 +33,12 @@ class Way(NamedTuple):
 
 class Found:
     """What was found on all folders: how many were right, what was wrong and how often, and one of each kind; how many starts
-    reported zero bytes; and of each kind of sync whether hosts make it, and whether it was missed."""
+    reported zero bytes; of each kind of sync whether hosts make it, and whether it was missed; and how the folders compare with the
+    definition."""
 
     def __init__(self):
         self.right, self.wrong, self.first, self.reported = 0, Counter(), {}, 0
-        self.made, self.missed = set(), set()
+        self.made, self.missed, self.compared = set(), set(), Compared()
 
     def note(self, label, why):
         if why is None:
@@ -50,6 +52,7 @@ class Found:
         self.wrong += other.wrong
         self.first = other.first | self.first
         self.made, self.missed = self.made | other.made, self.missed | other.missed
+        self.compared.add(other.compared)
 
 
 def is_near(event):
@@ -107,7 +110,8 @@ class Life:
         recording.serve(GRANTS if self.before is None else [])
         past, known = recording.past, Known(self.program, recording, self.before)
         judge = Judge(self.program, home, known, self.way.sync)
-        why, count = judge.judge(self.chance, Left(past.tree(), {}), len(past.events))
+        self.found.compared.runs += 1
+        why, count = judge.judge(self.chance, Left(past.tree(), {}, {}), len(past.events))
         self.found.note(f"{label}: what was recorded", why or self.why_not_all(known, count))
         goes_on = list(self.judged(label, judge, past, known))
         self.found.reported += judge.reported
@@ -122,7 +126,10 @@ class Life:
         for number in range(self.way.folders):
             chance = random.Random(f"{label}, {number}")
             moment, model = moment_in(chance, past), chance.choice(MODELS)
-            folder = left(chance, model, past, events_before(chance, past, moment))
+            events = events_before(chance, past, moment)
+            folder = left(chance, model, past, events)
+            altering = random.Random(f"{label}, {number}, altered")
+            self.found.compared.compare(altering, f"{label}, {number}: {model}", past, events, folder)
             why, count = judge.judge(chance, folder, moment)
             self.found.note(f"{label}, {number}: {model}, after {moment} of {len(past.events)} events", why)
             if why is not None:

@@ -5,11 +5,15 @@ from concurrent.futures import ProcessPoolExecutor
 from itertools import repeat
 
 from lib.places import in_memory
+from losses.comparing import differing
 from losses.lives import Found, Life, Way
 from losses.syncing import BESIDE, LOG, LOOSE, PACKED, REPACKED
 
 LIVES, FOLDERS, TRIES = 20, 40, 6
 LONGEST = 300
+# At least so many recorded runs are compared with the definition. A run is what some processes did to one folder, one after another,
+# between two losses of power.
+RUNS = 100
 
 
 def lived(program, seed, way):
@@ -54,3 +58,20 @@ def show(checks, program, label, seed, sync, kept, repacks=False, uploads=False)
     for kind in sorted(found.made):
         checks.same(f"{label}: a start is wrong without the syncs of {kind}", True, kind in found.missed)
     print(f"{label}: {found.right + found.wrong.total()} folders; {found.reported} had a few zero bytes that were reported", flush=True)
+    return found.compared
+
+
+def show_compared(checks, compared, seed):
+    """Every folder that was made of a recorded run is one that the definition allows, and altered ones are refused."""
+    wrong, counts = differing(seed)
+    checks.same("small pasts of which the search and the definition differ", [], wrong[:1])
+    checks.same("small pasts that the definition allows, and such as it refuses", [True, True], [counts[True] > 0, counts[False] > 0])
+    checks.same(f"{compared.runs} recorded runs are {RUNS} at least", True, compared.runs >= RUNS)
+    for why in compared.wrong:
+        checks.holds("a folder that was made, or altered, and the definition", why)
+    for way in ("without synced byte", "without synced name", "with other byte", "with old file"):
+        checks.same(f"folders {way} are refused", True, compared.refused[way] > 0)
+    checks.add(compared.allowed + compared.refused.total(), 0)
+    print(f"compared: {compared.runs} runs; {compared.allowed} folders are allowed as they are; {compared.refused.total()} altered are refused")
+    for reason, count in sorted(compared.beyond.items()):
+        print(f"compared: {count} folders beyond the definition: {reason}")

@@ -5,6 +5,7 @@ pub mod Examples
 pub mod LastingLemmas
 pub mod LifeLemmas
 pub mod ListingLemmas
+pub mod MarkLemmas
 pub mod NotedLemmas
 pub mod OpeningLemmas
 pub mod PlaceLemmas

@@ -1,10 +1,11 @@
 -- What syncs leave (own): which of them were answered, and in which order.
-use Rattle.std.specs.Prelude.{◌≡◌, ◌<◌, ◌⊎◌, ℕ, Bool, true, false, List, [], ◌∷◌, ◌++◌, Result, Ok, Err, All, slice_index_or}
+use Rattle.std.specs.Prelude.{◌≡◌, ◌<◌, ◌⊎◌, ◌==◌, ◌&&◌, ℕ, zero, suc, cond, Bool, true, false, List, [], ◌∷◌, ◌++◌, Result, Ok, Err, All, slice_index_or}
 use Rattle.std.specs.List.{Contains}
 use Rattle.std.specs.FinMap.{keys}
 use Rattle.devices.specs.Device.{Effect, Past, Does, Wrote, Added, Moved, Removed, SyncedFile, SyncedFolder, FailedFile, FailedFolder, files_of, names_in_folder, with_effect}
 use Rattle.devices.specs.declared.device.DeviceFault.{DeviceFault}
 use Rattle.devices.specs.declared.device.DeviceFault.TheVariants.{Device, Unopened, Missing, Memory, Room}
+use Rattle.loose_store.specs.Durability.{Durability}
 use Rattle.loose_store.specs.Files.{Files}
 use Rattle.folder_store.specs.Place.{home_with, place_of}
 
@@ -65,6 +66,19 @@ IsMarked homes first = (first < 256) × (slice_index_or homes first false ≡ tr
 -- it is not
 abbrev pub IsUnmarked : List Bool → ℕ → Type 0
 IsUnmarked homes first = slice_index_or homes first false ≡ false
+
+-- none of so many folders is marked
+abbrev pub none_of : ℕ → List Bool → Bool
+none_of zero homes = true
+none_of (suc first) homes = cond (slice_index_or homes first false) false (none_of first homes)
+
+-- no file is noted, and no folder is marked
+abbrev pub are_synced : ℕ → List Bool → Bool
+are_synced noted homes = (noted == 0) && none_of 256 homes
+
+-- what may be undone of a folder: what is noted or marked, and removals while there may be swept files
+abbrev pub durability_of : ℕ → List Bool → Bool → Durability
+durability_of noted homes has_swept = record { synced = are_synced noted homes; removed = has_swept }
 
 -- of the noted files each was synced and its folder marked, or is still noted; and marks stay
 pub record SyncsFiles (noted left : List ℕ → Bool) (homes marked : List Bool) (old new : Past) : Type 0 where

@@ -3,15 +3,16 @@ ghost use Rattle.std.specs.FinMap as map;
 ghost use Rattle.devices.specs.Device.{files_of};
 ghost use Rattle.git_name.specs.Name.{IsName};
 ghost use Rattle.folder_store.specs.Contents.{contents_in, contents_of};
+ghost use Rattle.loose_store.specs.Durability.{IsSync};
 ghost use Rattle.loose_store.specs.Failures.{Counts};
 ghost use Rattle.loose_store.specs.Files.{SameBut};
 ghost use Rattle.git_name.specs.Same.{same_name};
-ghost use Rattle.indexmap.specs.IndexSet.{Updates, contains};
+ghost use Rattle.indexmap.specs.IndexSet.{Updates, contains, index_set_len};
 ghost use Rattle.folder_store.specs.Calls.{Calls, Forgets, IsTold, Puts, Reads, Removes, Syncs, standing};
 ghost use Rattle.folder_store.specs.Lasting.{AllSafe, IsSafeAt, IsUnfailed, StaysSafe};
 ghost use Rattle.folder_store.specs.Place.{place_of};
 ghost use Rattle.folder_store.specs.Swept.{IsOpened, is_whole};
-ghost use Rattle.folder_store.specs.Synced.{IsUnmarked, first_of};
+ghost use Rattle.folder_store.specs.Synced.{IsUnmarked, durability_of, first_of};
 
 use crate::listing::list_all;
 use crate::making::create_all;
@@ -144,6 +145,8 @@ impl<D: Device> LooseFiles for Folder<D> {
 
     ghost failures = { λ folder. folder.failures };
 
+    ghost durability = { λ folder. durability_of (index_set_len folder.unsynced.names) folder.unsynced.homes folder.has_swept };
+
     fn get(&mut self, alloc: Global, name: Name) -> Result<Option<Vec<u8>>, FileFault>
         ensures call { IsTrue (D.honest self.old.device) → Calls Reads (standing (D.past self.old.device) self.old.has_swept self.old.unsynced.has_failed) (standing (D.past self.new.device) self.new.has_swept self.new.unsynced.has_failed) }
         ensures past { IsTrue (D.honest self.old.device) → D.past self.new.device ≡ D.past self.old.device }
@@ -223,6 +226,7 @@ impl<D: Device> LooseFiles for Folder<D> {
         ensures honest { D.honest self.new.device ≡ D.honest self.old.device }
         ensures failures { self.new.failures ≡ self.old.failures }
         ensures call { IsTrue (D.honest self.old.device) → Calls Syncs (standing (D.past self.old.device) self.old.has_swept self.old.unsynced.has_failed) (standing (D.past self.new.device) self.new.has_swept self.new.unsynced.has_failed) }
+        ensures durable { IsSync (durability_of (index_set_len self.old.unsynced.names) self.old.unsynced.homes self.old.has_swept) (durability_of (index_set_len self.new.unsynced.names) self.new.unsynced.homes self.new.has_swept) result }
         ensures synced { IsTrue (D.honest self.old.device) → IsUnfailed (D.past self.old.device) → OnOk result ((name : List ℕ) → IsName name → contains same_name self.old.unsynced.names name ≡ true → is_whole name (map.get (contents_of (files_of (D.past self.old.device))) name) ≡ true → IsSafeAt (place_of name) (D.past self.new.device) name) }
     {
         match self.unsynced.sync(&mut self.device, alloc) {
@@ -237,6 +241,7 @@ impl<D: Device> LooseFiles for Folder<D> {
         ensures honest { D.honest self.new.device ≡ D.honest self.old.device }
         ensures failures { self.new.failures ≡ self.old.failures }
         ensures call { IsTrue (D.honest self.old.device) → Calls Syncs (standing (D.past self.old.device) self.old.has_swept self.old.unsynced.has_failed) (standing (D.past self.new.device) self.new.has_swept self.new.unsynced.has_failed) }
+        ensures removed { self.new.has_swept ≡ self.old.has_swept }
         ensures ahead { IsTrue (D.honest self.old.device) → IsUnfailed (D.past self.old.device) → self.new.unsynced.has_failed ≡ false → (name : List ℕ) → IsName name → contains same_name self.old.unsynced.names name ≡ true → contains same_name self.new.unsynced.names name ≡ false → IsUnmarked self.new.unsynced.homes (first_of name) → is_whole name (map.get (contents_of (files_of (D.past self.old.device))) name) ≡ true → IsSafeAt (place_of name) (D.past self.new.device) name }
     {
         of_device(self.unsynced.sync_ahead(&mut self.device, alloc))
@@ -252,6 +257,7 @@ impl<D: Device> LooseFiles for Folder<D> {
         ensures failures { self.new.failures ≡ self.old.failures }
         ensures call { IsTrue (D.honest self.old.device) → Calls Forgets (standing (D.past self.old.device) self.old.has_swept self.old.unsynced.has_failed) (standing (D.past self.new.device) self.new.has_swept self.new.unsynced.has_failed) }
         ensures places { IsTrue (D.honest self.old.device) → StaysSafe (D.past self.old.device) (D.past self.new.device) }
+        ensures settled { OnOk result (self.new.has_swept ≡ false) }
     {
         of_device(empty_swept(&mut self.device, alloc))?;
         self.has_swept = false;

@@ -7,7 +7,7 @@ ghost use Rattle.git_name.specs.Same.{same_name};
 ghost use Rattle.folder_store.specs.Contents.{contents_in};
 ghost use Rattle.folder_store.specs.Place.{swept_of};
 ghost use Rattle.folder_store.specs.Swept.{move_syncs};
-ghost use Rattle.folder_store.specs.Synced.{AreSynced, HasOnlySyncs, SyncsBoth, SyncsFiles, SyncsHomes, failed_after};
+ghost use Rattle.folder_store.specs.Synced.{AreSynced, HasOnlySyncs, SyncsBoth, SyncsFiles, SyncsHomes, are_synced, failed_after};
 
 use crate::object_file::{is_there, sync_bytes, sync_names};
 use crate::place::{OBJECTS, home_of, swept_path};
@@ -262,6 +262,7 @@ impl Unsynced {
         alloc: Global,
         most: usize,
     ) -> Result<(), DeviceFault>
+        ensures all { index_set_len self.old.names ≤ most → OnOk result (are_synced (index_set_len self.new.names) self.new.homes ≡ true) }
         ensures synced { IsTrue (D.honest device.old) → index_set_len self.old.names ≤ most → OnOk result (AreSynced (contains same_name self.old.names) self.old.homes (D.past device.old) (D.past device.new)) }
         ensures both { IsTrue (D.honest device.old) → self.new.has_failed ≡ false → SyncsBoth (contains same_name self.old.names) (contains same_name self.new.names) self.old.homes self.new.homes (D.past device.old) (D.past device.new) }
         ensures failed { OnOk result (self.old.has_failed ≡ false) }
@@ -286,6 +287,7 @@ impl Unsynced {
         device: &mut D,
         alloc: Global,
     ) -> Result<(), DeviceFault>
+        ensures all { OnOk result (are_synced (index_set_len self.new.names) self.new.homes ≡ true) }
         ensures synced { IsTrue (D.honest device.old) → OnOk result (AreSynced (contains same_name self.old.names) self.old.homes (D.past device.old) (D.past device.new)) }
         ensures both { IsTrue (D.honest device.old) → self.new.has_failed ≡ false → SyncsBoth (contains same_name self.old.names) (contains same_name self.new.names) self.old.homes self.new.homes (D.past device.old) (D.past device.new) }
         ensures failed { OnOk result (self.old.has_failed ≡ false) }

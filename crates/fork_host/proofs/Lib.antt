@@ -26,6 +26,7 @@ pub mod RestoreLemmas
 pub mod RestoringLemmas
 pub mod RowLemmas
 pub mod SafeLemmas
+pub mod SameHostLemmas
 pub mod ShapeLemmas
 pub mod StagedLemmas
 pub mod StepLemmas

@@ -118,7 +118,7 @@ whole_more old new t limit of_tenant whole absent few low added placed honest = 
 
 -- if neither the accounts nor the vault change, the state is the same
 pub same_state : (accounts after : Accounts) (old new : VaultState) → after ≡ accounts → new.tenants ≡ old.tenants → LeavesStore old new → state_of after new ≡ state_of accounts old
-same_state accounts after old new same placed leaves = λ i. state_of (same i) (record { tenants = placed i; files = leaves.files i; honest = leaves.honest i; failures = leaves.failures i; places = leaves.places i })
+same_state accounts after old new same placed leaves = λ i. state_of (same i) (record { tenants = placed i; files = leaves.files i; honest = leaves.honest i; failures = leaves.failures i; durability = leaves.durability i; places = leaves.places i })
 
 -- an existing tenant is ready
 pub ready : (state : HostState) (t : List ℕ) (account : Account) → IsWhole state → get state.accounts t ≡ Some account → IsReady state.vault t account.limit

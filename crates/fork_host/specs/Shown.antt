@@ -8,7 +8,7 @@ use Rattle.git_reftx.specs.Repository.{repository_code}
 use Rattle.push_stream.specs.OpenUpload.{reading_code}
 use Rattle.push_stream.specs.Reading.{Reading}
 use Rattle.fork_ledger.specs.Private.{Private}
-use Rattle.fork_ledger.specs.Tenants.{VaultState, private_of, vault_code}
+use Rattle.fork_ledger.specs.Tenants.{VaultState, private_of, vault_code, with_durability}
 use Rattle.fork_model.specs.Sound.{IsOrderlyWorld, IsRightWorld}
 use Rattle.fork_model.specs.Uploads.{upload_among}
 use Rattle.fork_model.specs.View.{View, Repositories}
@@ -34,6 +34,10 @@ pub record HostState : Type 0 where
 -- the state of these accounts over a vault
 abbrev pub state_of : Accounts → VaultState → HostState
 state_of accounts vault = record { accounts = accounts; vault = vault }
+
+-- nothing of the host changed, but what may be undone of its store
+abbrev pub IsSameHost : HostState → HostState → Type 0
+IsSameHost old new = new ≡ state_of old.accounts (with_durability new.vault.durability old.vault)
 
 -- the view of a tenant of this account that has these private maps
 abbrev pub seen_by : Account → Private → View

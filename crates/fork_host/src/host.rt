@@ -10,6 +10,7 @@ ghost use Rattle.fork_model.specs.Runs.{Asks, HostAsks};
 ghost use Rattle.fork_model.specs.Sound.{IsAlike, IsOrderlyWorld, IsRightWorld};
 ghost use Rattle.fork_model.specs.View.{View};
 ghost use Rattle.fork_model.specs.World.{Explains, IsUnfaulted, LeavesOffers, alone, exchanges, meeting, met, own, told};
+ghost use Rattle.loose_store.specs.Durability.{IsSync};
 ghost use Rattle.state_text.specs.Kept.{states_of};
 ghost use Rattle.fork_ledger.specs.Store.{IsOver, LeavesStore};
 ghost use Rattle.fork_ledger.specs.Tenants.{private_of, with_tenant};
@@ -17,7 +18,7 @@ ghost use Rattle.fork_host.specs.Adding.{new_account, new_view, refusal_to_add};
 ghost use Rattle.fork_host.specs.Bounds.{IsBounded};
 ghost use Rattle.fork_host.specs.Opening.{reading_told};
 ghost use Rattle.fork_host.specs.Shape.{SameShape};
-ghost use Rattle.fork_host.specs.Shown.{IsWhole, Trusted, world_of};
+ghost use Rattle.fork_host.specs.Shown.{IsSameHost, IsWhole, Trusted, world_of};
 ghost use Rattle.fork_host.specs.Step.{IsRun, IsStep};
 ghost use Rattle.fork_host.specs.Swept.{SharpAfterSweeps};
 
@@ -168,27 +169,33 @@ impl<S: LooseFiles> Host<S> {
     /// Makes the file of each object that came survive a loss of power. Call it before saving a state that names the
     /// objects. After `Device` every later call fails too.
     pub fn sync(&mut self, alloc: Global) -> Result<(), FileFault>
-        ensures { self.new ≡ self.old }
+        ensures same { IsSameHost self.old self.new }
+        ensures durable { IsSync self.old.vault.durability self.new.vault.durability result }
     {
         self.vault.sync(alloc)
     }
 
     /// Does some of the work of the next `sync`, if there is much. Call it between requests.
     pub fn sync_ahead(&mut self, alloc: Global) -> Result<(), FileFault>
-        ensures { self.new ≡ self.old }
+        ensures same { IsSameHost self.old self.new }
+        ensures removed { self.new.vault.durability.removed ≡ self.old.vault.durability.removed }
     {
         self.vault.sync_ahead(alloc)
     }
 
-    /// Whether a file that a sweep removed would come back if the store were opened again.
-    pub fn has_removed(&self) -> bool {
+    /// Whether a file that a sweep removed would come back if the store were opened again, or `forget_removed` has something
+    /// else to do.
+    pub fn has_removed(&self) -> bool
+        ensures { result ≡ false → self.now.vault.durability.removed ≡ false }
+    {
         self.vault.has_removed()
     }
 
     /// Makes the removals of sweeps final. Call it after saving a state that names none of the removed objects. After
     /// an `Err` some of the removed files may still come back.
     pub fn forget_removed(&mut self, alloc: Global) -> Result<(), FileFault>
-        ensures { self.new ≡ self.old }
+        ensures same { IsSameHost self.old self.new }
+        ensures settled { OnOk result (self.new.vault.durability.removed ≡ false) }
     {
         self.vault.forget_removed(alloc)
     }

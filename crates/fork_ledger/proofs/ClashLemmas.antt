@@ -142,6 +142,7 @@ shown_over store holdings = record {
   files = store.contents;
   honest = store.honest;
   failures = store.failures;
+  durability = store.durability;
   places = places_of holdings.catalogue;
 }
 

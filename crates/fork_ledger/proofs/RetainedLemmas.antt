@@ -52,6 +52,7 @@ vault_of store holdings = record {
   files = store.contents;
   honest = store.honest;
   failures = store.failures;
+  durability = store.durability;
   places = places_of holdings.catalogue;
 }
 
@@ -61,5 +62,6 @@ same_vault store old new ledgers places = λ i. record {
   files = store.contents;
   honest = store.honest;
   failures = store.failures;
+  durability = store.durability;
   places = places i;
 }

@@ -7,6 +7,7 @@ use Rattle.looks.specs.Places.{Places}
 use Rattle.looks.specs.Slices.{SweepsAll}
 use Rattle.object_table.specs.Holders.{is_held_in}
 use Rattle.object_table.specs.Ledgers.{AllWords}
+use Rattle.loose_store.specs.Durability.{Durability}
 use Rattle.loose_store.specs.Files.{Files}
 use Rattle.fork_ledger.specs.Kept.{IsKept}
 use Rattle.fork_ledger.specs.Private.{Awaits, Private, Sees}
@@ -38,9 +39,9 @@ pub held_there : (files : Files) (m : AllWords) (name : List ℕ) → IsStored (
 held_there files m name stored held = stored_there (tenants_of files m) files name stored (held_taken files m name (sym (taken_shown files m name) ∙ held))
 
 -- an honest vault's state is accounted for
-pub accounted : (files : Files) (m : AllWords) (places : Places) (honest : Bool) (failures : ℕ) → IsKept m files places
-    → IsAccounted (record { tenants = tenants_of files m; files = files; honest = honest; failures = failures; places = places })
-accounted files m places honest failures kept = record { stored = λ name held. held_there files m name kept.stored held; catalogued = kept.covers }
+pub accounted : (files : Files) (m : AllWords) (places : Places) (honest : Bool) (failures : ℕ) (durability : Durability) → IsKept m files places
+    → IsAccounted (record { tenants = tenants_of files m; files = files; honest = honest; failures = failures; durability = durability; places = places })
+accounted files m places honest failures durability kept = record { stored = λ name held. held_there files m name kept.stored held; catalogued = kept.covers }
 
 -- where each catalogued name is held, the files are of just the names that are held
 pub sharp_files : (files : Files) (m : AllWords) (places : Places) → IsKept m files places → ((name : List ℕ) → is_listed places.names name ≡ true → is_held_in m name ≡ true)

@@ -34,6 +34,7 @@ pub record LeavesStore (old new : VaultState) : Type 0 where
   pub files : new.files ≡ old.files
   pub honest : new.honest ≡ old.honest
   pub failures : new.failures ≡ old.failures
+  pub durability : new.durability ≡ old.durability
   pub places : new.places ≡ old.places
 
 -- there is a file of this name, and it is whole for no object

@@ -7,6 +7,7 @@ use Rattle.git_name.specs.Maps.{map_values}
 use Rattle.git_name.specs.Name.{name_cmp}
 use Rattle.fork_reach.specs.Objects.{Measures}
 use Rattle.looks.specs.Places.{Places, places_code}
+use Rattle.loose_store.specs.Durability.{Durability, durability_code}
 use Rattle.loose_store.specs.Files.{Files}
 use Rattle.fork_ledger.specs.Private.{Private, nothing, private_code, private_measures}
 
@@ -14,12 +15,14 @@ use Rattle.fork_ledger.specs.Private.{Private, nothing, private_code, private_me
 abbrev pub Tenants : Type 0
 Tenants = FinMap name_cmp Private
 
--- what a vault shows: private maps; the store's files, its honesty, its count of failures; the catalogue's places
+-- what a vault shows: private maps; the store's files, its honesty, its count of failures, and what may be undone of it; the
+-- catalogue's places
 pub record VaultState : Type 0 where
   pub tenants : Tenants
   pub files : Files
   pub honest : Bool
   pub failures : ℕ
+  pub durability : Durability
   pub places : Places
 
 -- a tenant's private maps; an unknown tenant has no objects
@@ -41,7 +44,18 @@ shape_of tenants = map_values private_measures tenants
 -- what a vault shows has a code, so that it can be a model's value
 abbrev pub vault_code : Coded VaultState
 vault_code =
-    code_by (Tenants × (Files × (Bool × (ℕ × Places))))
-    (coded× (code (coded_list coded_ℕ) private_code) (coded× (code (coded_list coded_ℕ) (coded_list coded_ℕ)) (coded× coded_bool (coded× coded_ℕ places_code))))
-    (λ state. (state.tenants, (state.files, (state.honest, (state.failures, state.places)))))
-    (λ p. record { tenants = p.0; files = p.1.0; honest = p.1.1.0; failures = p.1.1.1.0; places = p.1.1.1.1 }) (λ _. refl)
+    code_by (Tenants × (Files × (Bool × (ℕ × (Durability × Places)))))
+    (coded× (code (coded_list coded_ℕ) private_code) (coded× (code (coded_list coded_ℕ) (coded_list coded_ℕ)) (coded× coded_bool (coded× coded_ℕ (coded× durability_code places_code)))))
+    (λ state. (state.tenants, (state.files, (state.honest, (state.failures, (state.durability, state.places))))))
+    (λ p. record { tenants = p.0; files = p.1.0; honest = p.1.1.0; failures = p.1.1.1.0; durability = p.1.1.1.1.0; places = p.1.1.1.1.1 }) (λ _. refl)
+
+-- the same vault, but for what may be undone of its store
+abbrev pub with_durability : Durability → VaultState → VaultState
+with_durability durability vault = record {
+  tenants = vault.tenants;
+  files = vault.files;
+  honest = vault.honest;
+  failures = vault.failures;
+  durability = durability;
+  places = vault.places;
+}

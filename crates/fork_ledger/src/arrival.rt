@@ -5,6 +5,7 @@ ghost use Rattle.git_name.specs.Object.{Object, object_name};
 ghost use Rattle.git_name.specs.Count.{fault_in};
 ghost use Rattle.loose_store.specs.Files.{SameBut};
 ghost use Rattle.loose_store.specs.Stored.{Whole};
+ghost use Rattle.read_cache.specs.Stores.{with_durability};
 ghost use Rattle.fork_ledger.specs.AllStaged.{StaysWhole};
 ghost use Rattle.fork_ledger.specs.Store.{CountsFault, Meets};
 
@@ -85,7 +86,7 @@ fn is_same(found: &Sealed, sealed: &Sealed) -> bool
 
 // The file of an arriving object is already there and whole. The next `sync` includes it.
 fn rely_on<S: LooseFiles>(files: &mut CachedStore<S>, name: Name) -> Result<(), VaultFault>
-    ensures files { files.new ≡ files.old }
+    ensures files { files.new ≡ with_durability files.new.durability files.old }
     ensures cause { IfErr result (λ fault. fault ≡ VaultFault.Memory) }
 {
     match files.rely_on(name) {

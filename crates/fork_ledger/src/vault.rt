@@ -11,6 +11,7 @@ ghost use Rattle.fork_reach.specs.Bases.{is_best_of};
 ghost use Rattle.fork_reach.specs.Objects.{use_of};
 ghost use Rattle.fork_reach.specs.History.{note_at};
 ghost use Rattle.fork_reach.specs.Reach.{is_between, linked_names, parent_names};
+ghost use Rattle.loose_store.specs.Durability.{IsSync};
 ghost use Rattle.looks.specs.Growth.{GrowsAmong};
 ghost use Rattle.looks.specs.Looks.{Looks, Walks};
 ghost use Rattle.looks.specs.Places.{at_start};
@@ -25,7 +26,7 @@ ghost use Rattle.fork_ledger.specs.Store.{AsksStore, HoldOne, IsOver, LeavesStor
 ghost use Rattle.fork_ledger.specs.Surveyed.{IsKnown};
 ghost use Rattle.fork_ledger.specs.Swept.{IsAccounted};
 ghost use Rattle.fork_ledger.specs.Taken.{is_taken};
-ghost use Rattle.fork_ledger.specs.Tenants.{at_tenant, private_of, shape_of, with_tenant};
+ghost use Rattle.fork_ledger.specs.Tenants.{at_tenant, private_of, shape_of, with_durability, with_tenant};
 ghost use Rattle.fork_ledger.specs.Used.{capped};
 
 use crate::checking::check_all;
@@ -77,6 +78,7 @@ impl<S: LooseFiles> Model for Vault<S> {
       files = a.files.contents;
       honest = a.files.honest;
       failures = a.files.failures;
+      durability = a.files.durability;
       places = places_of a.holdings.catalogue;
     } };
 
@@ -556,7 +558,8 @@ impl<S: LooseFiles> Vault<S> {
     /// Makes the file of each object that was staged survive a loss of power. After `Device` every later call fails
     /// too. After `Memory` it may be called again.
     pub fn sync(&mut self, alloc: Global) -> Result<(), FileFault>
-        ensures { self.new ≡ self.old }
+        ensures same { self.new ≡ with_durability self.new.durability self.old }
+        ensures durable { IsSync self.old.durability self.new.durability result }
     {
         self.files.sync(alloc)
     }
@@ -564,19 +567,24 @@ impl<S: LooseFiles> Vault<S> {
     /// Does some of the work of the next `sync`, if there is much. Call it between requests. After an `Err` every
     /// later call of `sync` fails.
     pub fn sync_ahead(&mut self, alloc: Global) -> Result<(), FileFault>
-        ensures { self.new ≡ self.old }
+        ensures same { self.new ≡ with_durability self.new.durability self.old }
+        ensures removed { self.new.durability.removed ≡ self.old.durability.removed }
     {
         self.files.sync_ahead(alloc)
     }
 
-    /// Whether a file that a sweep removed would come back if the store were opened again.
-    pub fn has_removed(&self) -> bool {
+    /// Whether a file that a sweep removed would come back if the store were opened again, or `forget_removed` has something
+    /// else to do.
+    pub fn has_removed(&self) -> bool
+        ensures { result ≡ false → self.now.durability.removed ≡ false }
+    {
         self.files.has_removed()
     }
 
     /// Makes the removals of sweeps final. After an `Err`, some of the removed files may still come back.
     pub fn forget_removed(&mut self, alloc: Global) -> Result<(), FileFault>
-        ensures { self.new ≡ self.old }
+        ensures same { self.new ≡ with_durability self.new.durability self.old }
+        ensures settled { OnOk result (self.new.durability.removed ≡ false) }
     {
         self.files.forget_removed(alloc)
     }

@@ -41,7 +41,7 @@ none_given hosting begun kept none = kept_host hosting begun begun begun kept gi
     given = subst (λ grants. AreGiven grants begun begun) (sym none) (no_grants begun)
 
 -- saved twice is saved
-saved_again : (old between new : HostState) → IsSaved old between → IsSaved between new → IsSaved old new
+pub saved_again : (old between new : HostState) → IsSaved old between → IsSaved between new → IsSaved old new
 saved_again old between new first then = record {
   shape = λ tenant. then.shape tenant ∙ first.shape tenant;
   trusted = λ trusted. then.trusted (first.trusted trusted);

@@ -3,6 +3,7 @@ mod LossLemmas
 pub mod ReferenceLemmas
 pub mod RepeatingLemmas
 mod RestoredLemmas
+pub mod SameHostLemmas
 pub mod TakenLemmas
 pub mod GivenLemmas
 pub mod HostingLemmas

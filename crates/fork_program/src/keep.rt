@@ -1,4 +1,5 @@
 ghost use Rattle.std.specs.Prelude.{◌≡◌, IfErr, IfOk};
+ghost use Rattle.fork_host.specs.Shown.{IsSameHost};
 ghost use Rattle.fork_program.specs.Keeping.{IsSaved};
 
 use crate::draft::Begun;
@@ -58,7 +59,8 @@ pub struct Keep<'a, H> {
 // Syncs some object files before the next save does, if there are many.
 fn sync_ahead<S: LooseFiles>(alloc: Global, host: &mut Host<S>) -> Result<(), Fault>
     ensures cause { IfErr result (λ fault. fault ≡ Fault.NotSaved) }
-    ensures host { host.new ≡ host.old }
+    ensures host { IsSameHost host.old host.new }
+    ensures removed { host.new.vault.durability.removed ≡ host.old.vault.durability.removed }
 {
     match host.sync_ahead(alloc) {
         Ok(()) => Ok(()),

@@ -4,7 +4,7 @@ ghost use Rattle.devices.specs.Crash.{folder_has_failed};
 ghost use Rattle.devices.specs.Device.{Past};
 ghost use Rattle.devices.specs.Moments.{Throughout};
 ghost use Rattle.devices.specs.Parts.{IsSure, IsWritten};
-ghost use Rattle.fork_host.specs.Shown.{Trusted};
+ghost use Rattle.fork_host.specs.Shown.{IsSameHost, Trusted};
 ghost use Rattle.host_folder.specs.Journal.{journal_file, journal_folder};
 ghost use Rattle.host_folder.specs.State.{LeavesStateOr, part_file, state_file};
 ghost use Rattle.sha2.specs.Sha256.{sha256};
@@ -182,7 +182,8 @@ impl<D: Device> KeptState<D> {
     ) -> Result<Begun<J>, Fault>
         requires { StandsIfSure self.old.is_sure (D.honest self.old.device) self.old.name (D.past self.old.device) }
         ensures cause { IfErr result (λ fault. fault ≡ Fault.NotSaved) }
-        ensures host { host.new ≡ host.old }
+        ensures host { IsSameHost host.old host.new }
+        ensures removed { OnErr result (host.new.vault.durability.removed ≡ host.old.vault.durability.removed) }
         ensures unsure { OnErr result (self.new.is_sure ≡ false) }
         ensures name { OnOk result (self.new.name ≡ draft.name) }
         ensures each { (text : List ℕ) (before : Option (List ℕ)) (first : Past) → IsTrue (D.honest self.old.device) → IsSure first state_file before → IsWritten part_file text first (D.past self.old.device) → Throughout (LeavesStateOr before text) first (D.past self.new.device) }

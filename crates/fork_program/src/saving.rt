@@ -1,10 +1,11 @@
-ghost use Rattle.std.specs.Prelude.{◌≡◌, ◌≢◌, [], ℕ, IfErr, IfOk, IfSome, IsTrue, List, Ok, OnOk, Option, Result, Some, false, string_bytes, true};
+ghost use Rattle.std.specs.Prelude.{◌≡◌, ◌≢◌, [], ℕ, IfErr, IfOk, IfSome, IsTrue, List, Ok, OnErr, OnOk, Option, Result, Some, false, string_bytes, true};
 ghost use Rattle.devices.specs.Crash.{folder_has_failed};
 ghost use Rattle.devices.specs.Device.{Past};
 ghost use Rattle.devices.specs.Moments.{Throughout};
 ghost use Rattle.devices.specs.Parts.{DropsPart, IsSure, IsWritten};
 ghost use Rattle.devices.specs.Runs.{Runs};
 ghost use Rattle.devices.specs.declared.device.DeviceFault.{DeviceFault};
+ghost use Rattle.fork_host.specs.Shown.{IsSameHost};
 ghost use Rattle.host_folder.specs.Appending.{bytes_at};
 ghost use Rattle.host_folder.specs.Journal.{journal_file, journal_folder, journal_part, naming};
 ghost use Rattle.host_folder.specs.State.{LeavesStateOr, PlacesPart, SettlesPart, part_file, state_file, syncing};
@@ -60,7 +61,9 @@ fn settle_all<S: LooseFiles, D: Device, J: Device + Drop>(
     device: &mut D,
 ) -> Result<Placed, Fault>
     ensures cause { IfErr result (λ fault. fault ≡ Fault.NotSaved) }
-    ensures host { host.new ≡ host.old }
+    ensures host { IsSameHost host.old host.new }
+    ensures synced { OnOk result (host.new.vault.durability.synced ≡ true) }
+    ensures removed { host.new.vault.durability.removed ≡ host.old.vault.durability.removed }
     ensures settled { IsTrue (D.honest device.old) → SettlesPart (D.past device.old) (D.past device.new) }
     ensures placed { IsTrue (D.honest device.old) → standing ≢ Some name → OnOk result (PlacesPart (D.past device.old) (D.past device.new)) }
     ensures dropped { IsTrue (D.honest device.old) → standing ≡ Some name → OnOk result (DropsPart part_file (D.past device.old) (D.past device.new)) }
@@ -85,7 +88,7 @@ fn settle_all<S: LooseFiles, D: Device, J: Device + Drop>(
 // Puts a host's drafted state in its place. The object files and the log of open uploads are synced first. Then the journal
 // gets the name of the new state. Then the part becomes the state, unless the folder already has that state. So at each
 // moment the state in the folder has its journal, its log and its objects. A single rename, of the state or of the journal,
-// replaces the old ones. After an `Err` the part is removed, if it can be. `standing` is the name of the state that the
+// replaces the old ones. After an `Err` the part is removed, if it can be, and no removal is final. `standing` is the name of the state that the
 // folder is sure to have, or `None` if the drafted one is to be placed in any case.
 pub(crate) fn put<S: LooseFiles, D: Device, J: Device + Drop>(
     alloc: Global,
@@ -96,7 +99,8 @@ pub(crate) fn put<S: LooseFiles, D: Device, J: Device + Drop>(
 ) -> Result<Settled<J>, Fault>
     requires standing { IfSome standing (λ name. IsTrue (D.honest device.old) → folder_has_failed (D.past device.old).effects [] ≡ false → IsStanding name (D.past device.old)) }
     ensures cause { IfErr result (λ fault. fault ≡ Fault.NotSaved) }
-    ensures host { host.new ≡ host.old }
+    ensures host { IsSameHost host.old host.new }
+    ensures removed { OnErr result (host.new.vault.durability.removed ≡ host.old.vault.durability.removed) }
     ensures name { IfOk result (λ settled. settled.name ≡ draft.name) }
     ensures each { (text : List ℕ) (before : Option (List ℕ)) (first : Past) → IsTrue (D.honest device.old) → IsSure first state_file before → IsWritten part_file text first (D.past device.old) → Throughout (LeavesStateOr before text) first (D.past device.new) }
     ensures placed { (text : List ℕ) (first : Past) → IsTrue (D.honest device.old) → standing ≢ Some draft.name → IsWritten part_file text first (D.past device.old) → folder_has_failed first.effects [] ≡ false → OnOk result (IsSure (D.past device.new) state_file (Some text)) }
@@ -158,7 +162,8 @@ pub(crate) fn resume<S: LooseFiles, D: Device, J: Device + Drop>(
     journals: J,
 ) -> Result<Settled<J>, Fault>
     ensures cause { IfErr result (λ fault. fault ≡ Fault.NotSaved) }
-    ensures host { host.new ≡ host.old }
+    ensures host { IsSameHost host.old host.new }
+    ensures removed { OnErr result (host.new.vault.durability.removed ≡ host.old.vault.durability.removed) }
     ensures name { IfOk result (λ settled. settled.name ≡ name) }
     ensures len { IfOk result (λ settled. settled.len ≡ len) }
     ensures tried { IsTrue (D.honest device.old) → OnlySyncs (D.past device.old) (D.past device.new) }

@@ -4,6 +4,7 @@ ghost use Rattle.std.specs.Prelude.{◌≡◌, ℕ, IfErr, IfOk, IsTrue, List, O
 ghost use Rattle.devices.specs.Parts.{DropsPart};
 ghost use Rattle.devices.specs.Runs.{Runs};
 ghost use Rattle.devices.specs.declared.device.DeviceFault.{DeviceFault as DeviceFaultValue};
+ghost use Rattle.fork_host.specs.Shown.{IsSameHost};
 ghost use Rattle.host_folder.specs.Journal.{journal_file, naming};
 ghost use Rattle.host_folder.specs.State.{PlacesPart, SettlesPart, TriesPlace, part_file};
 ghost use Rattle.fork_program.specs.Journaling.{IsNamed};
@@ -21,8 +22,7 @@ use host_folder::{
 use loose_store::LooseFiles;
 use std::alloc::Global;
 
-/// What a state of this name needs beside its own file was synced, as `settle_others` does it, which alone makes one. No clause
-/// says what that is.
+/// What a state of this name needs beside its own file was synced, as `settle_others` does it, which alone makes one.
 #[derive(Drop)]
 pub(crate) struct Synced {
     name: Name,
@@ -84,7 +84,7 @@ fn name_journal<J: Device>(
 }
 
 /// Makes all that a drafted state of this name needs survive a loss of power: first the object files and the log of open uploads
-/// are synced, then the journal gets the name of the new state.
+/// are synced, then the journal gets the name of the new state. No removal is made final.
 pub(crate) fn settle_others<S: LooseFiles, J: Device + Drop>(
     alloc: Global,
     host: &mut Host<S>,
@@ -92,7 +92,9 @@ pub(crate) fn settle_others<S: LooseFiles, J: Device + Drop>(
     begun: &mut Begun<J>,
 ) -> Result<Synced, Fault>
     ensures cause { IfErr result (λ fault. fault ≡ Fault.NotSaved) }
-    ensures host { host.new ≡ host.old }
+    ensures host { IsSameHost host.old host.new }
+    ensures synced { OnOk result (host.new.vault.durability.synced ≡ true) }
+    ensures removed { host.new.vault.durability.removed ≡ host.old.vault.durability.removed }
     ensures name { IfOk result (λ synced. synced.name ≡ name) }
     ensures named { IsTrue (J.honest begun.old.journal.writer.device) → OnOk result (Runs {A = Unit {0}} {E = DeviceFaultValue} (naming name) (J.past begun.old.journal.writer.device) (J.past begun.new.journal.writer.device) (Ok tt)) }
     ensures path { OnOk result (string_bytes begun.new.journal.writer.path ≡ journal_file name) }
@@ -155,7 +157,7 @@ pub(crate) fn clear<S: LooseFiles, J: Device + Drop>(
     placed: &Placed,
     begun: &mut Begun<J>,
 )
-    ensures host { host.new ≡ host.old }
+    ensures host { IsSameHost host.old host.new }
     ensures journal { (text : List ℕ) → IsTrue (J.honest begun.old.journal.writer.device) → IsNamed placed.now.name text (J.past begun.old.journal.writer.device) → IsNamed placed.now.name text (J.past begun.new.journal.writer.device) }
     ensures path { begun.new.journal.writer.path ≡ begun.old.journal.writer.path }
     ensures journals { J.honest begun.new.journal.writer.device ≡ J.honest begun.old.journal.writer.device }

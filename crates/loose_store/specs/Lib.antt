@@ -1,3 +1,4 @@
+pub mod Durability
 pub mod Failures
 pub mod Files
 pub mod Fuse

@@ -13,6 +13,8 @@ impl<L: LooseFiles, R: LooseFiles> LooseFiles for Either<L, R> {
 
     ghost failures = { either (λ files. L.failures files) (λ files. R.failures files) };
 
+    ghost durability = { either (λ files. L.durability files) (λ files. R.durability files) };
+
     fn get(&mut self, alloc: Global, name: Name) -> Result<Option<Vec<u8>>, FileFault> {
         for_both!(self, files => files.get(alloc, name))
     }

@@ -1,4 +1,4 @@
-ghost use Rattle.std.specs.Prelude.{◌≡◌, true, OnOk, OnErr, IfOk, Some, None};
+ghost use Rattle.std.specs.Prelude.{◌≡◌, false, true, OnOk, OnErr, IfOk, Some, None};
 ghost use Rattle.std.specs.Map.{keys_of};
 ghost use Rattle.std.specs.FinMap as map;
 ghost use Rattle.std.specs.List.{IsDistinct};
@@ -122,6 +122,8 @@ impl LooseFiles for Memory {
 
     ghost failures = { λ _. 0 };
 
+    ghost durability = { λ _. record { synced = true; removed = false } };
+
     fn get(&mut self, alloc: Global, name: Name) -> Result<Option<Vec<u8>>, FileFault> {
         let Some(file) = self.nearby.get(&self.files, name) else {
             return Ok(None);
@@ -154,6 +156,18 @@ impl LooseFiles for Memory {
 
     fn names(&mut self, alloc: Global) -> Result<Vec<Name>, FileFault> {
         Ok(names_in(alloc, &self.files)?)
+    }
+
+    fn sync(&mut self, _alloc: Global) -> Result<(), FileFault> {
+        Ok(())
+    }
+
+    fn has_removed(&self) -> bool {
+        false
+    }
+
+    fn forget_removed(&mut self, _alloc: Global) -> Result<(), FileFault> {
+        Ok(())
     }
 
     fn hashing(&self) -> Hashing {

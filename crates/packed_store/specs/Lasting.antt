@@ -1,8 +1,9 @@
 -- What of the segments is sure (own): what is there as it is seen, whatever a loss of power leaves.
-use Rattle.std.specs.Prelude.{◌≡◌, ◌≤◌, ◌<◌, ℕ, List, [], ◌∷◌, Option, Some, None, codes}
+use Rattle.std.specs.Prelude.{◌≡◌, ◌≤◌, ◌<◌, ℕ, Bool, not, List, [], ◌∷◌, Option, Some, None, codes}
 use Rattle.std.specs.FinMap.{get}
 use Rattle.devices.specs.Crash.{File, IsIn, MayBytes, MayNames, Names, Stands, bytes_after, names_after}
 use Rattle.devices.specs.Device.{Effect, Past, Wrote, Added, Moved, Removed, SyncedFile, SyncedFolder, FailedFile, FailedFolder, files_of}
+use Rattle.loose_store.specs.Durability.{Durability}
 use Rattle.packed_store.specs.Place.{segment_path}
 use Rattle.packed_store.specs.declared.place.TheConstants.{LAST_SEGMENT}
 
@@ -29,6 +30,10 @@ HasSureBytes past path = (file : File) → names_after past.base past.effects pa
 -- the segments from one number on and below another have sure bytes
 abbrev pub AreSure : Past → ℕ → ℕ → Type 0
 AreSure past first end = (segment : ℕ) → first ≤ segment → segment < end → HasSureBytes past (segment_path segment)
+
+-- what may be undone of segments: what was written and not synced, and removals that are not final
+abbrev pub durability_of : Bool → Bool → Durability
+durability_of is_dirty has_removed = record { synced = not is_dirty; removed = has_removed }
 
 -- if a file is seen right in a folder, a loss of power leaves there the names that are seen
 abbrev pub HasSureNames : List ℕ → Past → Type 0

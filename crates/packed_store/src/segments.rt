@@ -1,8 +1,9 @@
 ghost use Rattle.std.specs.Prelude.{◌≡◌, ℕ, List, IfOk, IsErr, IsTrue, OnOk, Some, true};
 ghost use Rattle.std.specs.FinMap as map;
 ghost use Rattle.devices.specs.Device.{files_of};
+ghost use Rattle.loose_store.specs.Durability.{IsSync};
 ghost use Rattle.packed_store.specs.Contents.{contents_in};
-ghost use Rattle.packed_store.specs.Lasting.{AllLast, AreLasting, HasSegment, IsUnfailed};
+ghost use Rattle.packed_store.specs.Lasting.{AllLast, AreLasting, HasSegment, IsUnfailed, durability_of};
 ghost use Rattle.packed_store.specs.Opening.{Opens};
 ghost use Rattle.packed_store.specs.Place.{AreRecorded, index_of};
 ghost use Rattle.packed_store.specs.Stored.{IsWritten};
@@ -111,6 +112,8 @@ impl<D: Device> LooseFiles for Segments<D> {
 
     ghost failures = { λ store. store.failures };
 
+    ghost durability = { λ store. durability_of store.log.is_dirty store.has_removed };
+
     fn get(&mut self, alloc: Global, name: Name) -> Result<Option<Vec<u8>>, FileFault> {
         let answer = read_file(&self.log, &self.index, &self.nearby, alloc, name);
         answered(&mut self.failures, answer)
@@ -153,6 +156,7 @@ impl<D: Device> LooseFiles for Segments<D> {
         ensures lasts { IsTrue (D.honest self.old.log.device) → IsUnfailed (D.past self.old.log.device) → OnOk result (HasSegment (D.past self.new.log.device) → AreLasting (D.past self.new.log.device) self.old.log.first self.old.log.segment) }
         ensures all { IsTrue (D.honest self.old.log.device) → IsUnfailed (D.past self.old.log.device) → OnOk result (HasSegment (D.past self.new.log.device) → AllLast (D.past self.new.log.device)) }
         ensures failed { self.old.log.has_failed ≡ true → IsErr result }
+        ensures durable { IsSync (durability_of self.old.log.is_dirty self.old.has_removed) (durability_of self.new.log.is_dirty self.new.has_removed) result }
     {
         match sync_all(&mut self.log, &self.index, alloc) {
             Ok(()) => Ok(()),

@@ -1,10 +1,11 @@
-ghost use Rattle.std.specs.Prelude.{◌≡◌, IsTrue, IfErr, IfOk, IfSome, OnOk, Some, true};
+ghost use Rattle.std.specs.Prelude.{◌≡◌, false, IsTrue, IfErr, IfOk, IfSome, OnOk, Some, true};
 ghost use Rattle.std.specs.FinMap as map;
 ghost use Rattle.git_name.specs.Object.{object_name, typed_bytes};
+ghost use Rattle.loose_store.specs.Durability.{IsSync};
 ghost use Rattle.loose_store.specs.Files.{SameBut};
 ghost use Rattle.loose_store.specs.Failures.{Counts, CountsPut};
 ghost use Rattle.loose_store.specs.Stored.{ReadsTo, Whole, CountsRead as CountsAsked};
-ghost use Rattle.read_cache.specs.Stores.{CountsCachedRead};
+ghost use Rattle.read_cache.specs.Stores.{CountsCachedRead, with_durability};
 
 use crate::read_cache::ReadCache;
 use git_name::{Hashing, Kind, Name, Sealed, seal_as};
@@ -35,6 +36,7 @@ impl<S: LooseFiles> Model for CachedStore<S> {
       contents = S.contents a.files;
       honest = S.honest a.files;
       failures = S.failures a.files;
+      durability = S.durability a.files;
     } };
 
     ghost invariant = { λ a. (IsTrue (S.honest a.files) → AreWhole a.cache (S.contents a.files)) × IsSure a.is_sure (S.honest a.files) (S.contents a.files) };
@@ -46,6 +48,7 @@ impl<S: LooseFiles + Drop> CachedStore<S> {
         ensures contents { IfOk result (λ store. store.contents ≡ S.contents files) }
         ensures honest { IfOk result (λ store. store.honest ≡ S.honest files) }
         ensures failures { IfOk result (λ store. store.failures ≡ S.failures files) }
+        ensures durability { IfOk result (λ store. store.durability ≡ S.durability files) }
     {
         let cache = ReadCache::new(alloc)?;
         let is_sure = files.is_fresh();
@@ -142,33 +145,38 @@ impl<S: LooseFiles> CachedStore<S> {
 
     /// Notes that the caller relies on an existing file: the next `sync` includes it.
     pub fn rely_on(&mut self, name: Name) -> Result<(), AllocError>
-        ensures { self.new ≡ self.old }
+        ensures { self.new ≡ with_durability self.new.durability self.old }
     {
         self.files.rely_on(name)
     }
 
     /// Makes the files that were put, or relied on, survive a loss of power. After `Device` every later call fails too.
     pub fn sync(&mut self, alloc: Global) -> Result<(), FileFault>
-        ensures { self.new ≡ self.old }
+        ensures same { self.new ≡ with_durability self.new.durability self.old }
+        ensures durable { IsSync self.old.durability self.new.durability result }
     {
         self.files.sync(alloc)
     }
 
     /// Does some of the work of the next `sync`, if there is much.
     pub fn sync_ahead(&mut self, alloc: Global) -> Result<(), FileFault>
-        ensures { self.new ≡ self.old }
+        ensures same { self.new ≡ with_durability self.new.durability self.old }
+        ensures removed { self.new.durability.removed ≡ self.old.durability.removed }
     {
         self.files.sync_ahead(alloc)
     }
 
-    /// Whether a removed file would come back if the store were opened again.
-    pub fn has_removed(&self) -> bool {
+    /// Whether a removed file would come back if the store were opened again, or `forget_removed` has something else to do.
+    pub fn has_removed(&self) -> bool
+        ensures { result ≡ false → self.now.durability.removed ≡ false }
+    {
         self.files.has_removed()
     }
 
     /// Makes removals final. After an `Err` some of the removed files may still come back.
     pub fn forget_removed(&mut self, alloc: Global) -> Result<(), FileFault>
-        ensures { self.new ≡ self.old }
+        ensures same { self.new ≡ with_durability self.new.durability self.old }
+        ensures settled { OnOk result (self.new.durability.removed ≡ false) }
     {
         self.files.forget_removed(alloc)
     }

@@ -1,10 +1,11 @@
 use Rattle.std.proofs.Common.{◌∙◌, ℕ, List, Some}
 use Rattle.std.proofs.lemmas.Result.{on_ok_weaker}
-use Rattle.fork_program.proofs.HostingLemmas.{on_ok_always}
 use Rattle.devices.specs.Parts.{IsSure}
 use Rattle.host_folder.specs.State.{state_file}
 use Rattle.fork_program.specs.Keeping.{IsNameOf, IsTextOf}
 use Rattle.fork_program.specs.Saving.{IsDrafted, IsStanding}
+use Rattle.fork_program.proofs.HostingLemmas.{on_ok_always, saved_again}
+use Rattle.fork_program.proofs.SameHostLemmas.{same_saved}
 use Rattle.fork_program.proofs.SavingLemmas.{it_is, none_of_host, none_stands, ok_of_name, one_of_host}
 use Rattle.fork_program.proofs.saving.save_over.Goals as goal
 
@@ -39,3 +40,6 @@ returns-clause-stands g c honest unfailed =
     ok_of_name (λ settled. settled.name) (λ name. IsStanding name (g.D.Device.past c.put.new.device)) c.in-Some.draft.name c.put.result
     (c.put.ensures.stands it.text (g.D.Device.past c.args.device.now) (c.drafted.ensures.honest ∙ honest) it.written it.named unfailed)
     c.put.ensures.name
+
+pub returns-clause-saved : goal.returns-clause-saved
+returns-clause-saved g c = saved_again c.args.host.now c.drafted.new.host c.put.new.host c.drafted.ensures.saved (same_saved c.drafted.new.host c.put.new.host c.put.ensures.host)

@@ -1,7 +1,8 @@
 use Rattle.std.proofs.Common.{◌∙◌, ap, sym, subst, refl, Bool, List, ℕ}
-use Rattle.indexmap.specs.IndexSet.{contains}
+use Rattle.indexmap.specs.IndexSet.{contains, index_set_len}
 use Rattle.git_name.specs.Same.{same_name}
 use Rattle.folder_store.specs.Synced.{SyncsBoth}
+use Rattle.folder_store.proofs.MarkLemmas.{marked_then, synced_at, unmarked_all}
 use Rattle.folder_store.proofs.SyncLemmas.{all_synced, goes_on, homes_none, none_marked, synced_then}
 use Rattle.folder_store.proofs.unsynced.Unsynced.sync_some.Goals as goal
 
@@ -39,3 +40,12 @@ returns-clause-both g c honest unfailed =
     (goes_on (contains same_name c.args.self.now.names) (contains same_name c.sync_files.new.self.names) c.args.self.now.homes c.sync_files.new.self.homes c.sync_homes.new.self.homes
     (g.D.Device.past c.args.device.now) (g.D.Device.past c.sync_files.new.device) (g.D.Device.past c.sync_homes.new.device) (c.sync_files.ensures.files honest (c.sync_homes.ensures.failed unfailed))
     (c.sync_homes.ensures.folders (c.sync_files.ensures.honest ∙ honest) unfailed))
+
+pub returns-then-not-contains-clause-all : goal.returns-then-not-contains-clause-all
+returns-then-not-contains-clause-all g c few =
+    synced_at (index_set_len c.sync_files.new.self.names) c.sync_files.new.self.homes (c.in_ok-sync_files.ensures.left few)
+    (unmarked_all c.sync_files.new.self.homes (none_marked _ c.sync_files.new.self.homes refl (sym c.contains.ensures.value ∙ c.if-not-contains.true)))
+
+pub returns-clause-all : goal.returns-clause-all
+returns-clause-all g c few =
+    marked_then c.sync_homes.result c.sync_files.new.self.names c.sync_homes.new.self.names c.sync_homes.new.self.homes c.sync_homes.ensures.names (c.in_ok-sync_files.ensures.left few) c.sync_homes.ensures.unmarked

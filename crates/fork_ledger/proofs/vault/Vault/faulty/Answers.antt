@@ -24,7 +24,7 @@ returns-clause-sound g c = λ h.
     let was = ap (λ (s : VaultState). s.honest) c.self.view_is ∙ h in
     let files = c.self.inside.files.contents in
     let ledgers = c.self.inside.holdings.ledgers in
-    let vault : VaultState = record { tenants = tenants_of files ledgers; files = files; honest = c.self.inside.files.honest; failures = c.self.inside.files.failures; places = places_of c.self.inside.holdings.catalogue } in
+    let vault : VaultState = record { tenants = tenants_of files ledgers; files = files; honest = c.self.inside.files.honest; failures = c.self.inside.files.failures; durability = c.self.inside.files.durability; places = places_of c.self.inside.holdings.catalogue } in
     IfOk-weaker c.check_all.result _ _ (λ harms has.
     sound_harms vault (map.entries harms) was (c.self.invariant was).0.stored (λ q is. held_taken files ledgers q (sym (taken_shown files ledgers q) ∙ is)) (found_harms vault files ledgers harms refl has)) c.check_all.ensures.checks
 

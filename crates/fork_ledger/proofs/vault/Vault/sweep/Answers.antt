@@ -58,7 +58,7 @@ returns-clause-shape g c =
 pub returns-clause-accounted : goal.returns-clause-accounted
 returns-clause-accounted g c = λ h.
     let was = ap (λ s. s.honest) c.self.view_is ∙ h in
-    accounted c.sweep.new.files.contents c.sweep.new.holdings.ledgers (places_of c.sweep.new.holdings.catalogue) _ _
+    accounted c.sweep.new.files.contents c.sweep.new.holdings.ledgers (places_of c.sweep.new.holdings.catalogue) _ _ _
     (kept_after c.self.inside.files.contents c.sweep.new.files.contents c.self.inside.holdings.ledgers c.sweep.new.holdings.ledgers (places_of c.self.inside.holdings.catalogue) (places_of c.sweep.new.holdings.catalogue)
     c.sweep.ensures.ledgers (c.sweep.ensures.keeps was) (c.sweep.ensures.covers was) (c.self.invariant was).0)
 

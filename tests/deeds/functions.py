@@ -5,6 +5,7 @@ from functools import lru_cache
 
 SEEN = r"( *)(?:pub(?:\([^)]*\))? )?"
 FUNCTION = re.compile(SEEN + r"(?:final )?(?:const )?(?:unsafe )?fn (\w+)")
+LAST_CLAUSE = re.compile(r" *(?:ensures|requires)\b.*\};$")
 OWNER = re.compile(SEEN + r"(?:unsafe )?(impl|trait)\b(.*)\{$")
 
 
@@ -27,6 +28,8 @@ def body_at(lines, row):
     indent = indent_of(lines[row])
     level = [at for at in range(row, len(lines)) if lines[at].strip() and indent_of(lines[at]) == indent]
     opens = next((at for at in level if lines[at].endswith(("{", "}", ";"))), row)
+    # A method without a body may end with its last clause.
+    opens = next((at for at in range(row, opens) if LAST_CLAUSE.match(lines[at])), opens)
     if not lines[opens].endswith("{"):
         return opens, opens
     return opens, next((at for at in level if at > opens and lines[at].lstrip().startswith("}")), opens)

@@ -1,9 +1,8 @@
 -- A host of which nothing changed, but what may be undone of its store.
-use Rattle.std.proofs.Common.{◌≡◌, sym, subst}
+use Rattle.std.proofs.Common.{sym, subst}
 use Rattle.fork_host.specs.Shape.{SameShape}
-use Rattle.fork_host.specs.Shown.{HostState, IsSameHost, state_of, world_of}
+use Rattle.fork_host.specs.Shown.{HostState, IsSameHost, world_of}
 use Rattle.fork_host.proofs.SameHostLemmas.{same_trust, same_world}
-use Rattle.fork_ledger.specs.Tenants.{with_durability}
 use Rattle.fork_program.specs.Keeping.{IsSaved}
 use Rattle.fork_program.proofs.HostingLemmas.{unsaved}
 
@@ -14,7 +13,3 @@ same_saved old new same = record {
   trusted = same_trust old new same;
   shows = λ _. same_world old new same;
 }
-
--- twice
-pub same_twice : (old between new : HostState) → IsSameHost old between → IsSameHost between new → IsSameHost old new
-same_twice old between new one two = subst (λ (s : HostState). new ≡ state_of s.accounts (with_durability new.vault.durability s.vault)) one two

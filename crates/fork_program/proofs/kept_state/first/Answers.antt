@@ -3,6 +3,7 @@ use Rattle.std.proofs.lemmas.Result.{on_ok_weaker}
 use Rattle.fork_program.proofs.HostingLemmas.{on_ok_always}
 use Rattle.fork_program.specs.Keeping.{IsNameOf}
 use Rattle.fork_program.specs.Saving.{IsStanding}
+use Rattle.fork_program.proofs.SameHostLemmas.{same_saved}
 use Rattle.fork_program.proofs.SavingLemmas.{none_of_host, ok_of_name, settled_of, sure_stands, sure_still}
 use Rattle.fork_program.proofs.kept_state.first.Goals as goal
 
@@ -29,3 +30,6 @@ returns-then-is_current-clause-settles g c before honest sure unfailed =
 
 pub returns-clause-settles : goal.returns-clause-settles
 returns-clause-settles g c before honest sure unfailed = settled_of before c.args.host.now (g.D.Device.past c.save_over.new.device) c.save_over.result (c.save_over.ensures.sure honest unfailed)
+
+pub returns-then-is_current-clause-saved : goal.returns-then-is_current-clause-saved
+returns-then-is_current-clause-saved g c = same_saved c.args.host.now c.resume.new.host c.resume.ensures.host

@@ -1,6 +1,8 @@
 use Rattle.std.proofs.Common.{◌∙◌, inl, sym}
 use Rattle.fork_program.specs.Keeping.{IsNameOf}
 use Rattle.fork_program.specs.Saving.{IsDrafted}
+use Rattle.fork_program.proofs.HostingLemmas.{saved_again}
+use Rattle.fork_program.proofs.SameHostLemmas.{same_saved}
 use Rattle.fork_program.proofs.SavingLemmas.{it_is, leaves_name, none_of_host, one_of_host, settled_on, stands_as, stands_tried}
 use Rattle.fork_program.proofs.kept_state.KeptState.save.Goals as goal
 
@@ -52,3 +54,9 @@ returns-clause-settles g c before honest sure unfailed =
 pub returns-in_default-clause-settles : goal.returns-in_default-clause-settles
 returns-in_default-clause-settles g c before honest sure unfailed =
     inl (c.a_tried_part_leaves_the_state.ensures.sure before (g.D.Device.past c.args.self.now.device) (g.D.Device.past c.drafted.new.device) sure (c.drafted.ensures.tried honest))
+
+pub returns-in_err-begun-clause-saved : goal.returns-in_err-begun-clause-saved
+returns-in_err-begun-clause-saved g c = saved_again c.args.host.now c.drafted.new.host c.replace.new.host c.drafted.ensures.saved (same_saved c.drafted.new.host c.replace.new.host c.replace.ensures.host)
+
+pub returns-clause-saved : goal.returns-clause-saved
+returns-clause-saved g c = saved_again c.args.host.now c.drafted.new.host c.replace.new.host c.drafted.ensures.saved (same_saved c.drafted.new.host c.replace.new.host c.replace.ensures.host)

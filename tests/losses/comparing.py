@@ -5,7 +5,7 @@ from collections import Counter
 
 from losses import definition
 from losses.allowed import Seen, wrong_path
-from losses.effects import Added, FailedFile, FailedFolder, FolderMoved, Moved, Removed, SyncedFile, SyncedFolder, Wrote
+from losses.effects import Added, FailedFile, FailedFolder, FolderMoved, Moved, NotOfDevice, Removed, SyncedFile, SyncedFolder, Wrote
 from losses.effects import effects_of, files_of
 from losses.leaving import tree_at
 from losses.past import ROOT
@@ -35,12 +35,15 @@ class Compared:
         self.wrong += other.wrong
 
     def compare(self, chance, label, past, events, folder):
-        """Holds one folder against the definition."""
+        """Holds one folder against the definition. Returns whether it speaks of the folder."""
         try:
             effects = effects_of(past, events)
         except FolderMoved:
             self.beyond[MOVED] += 1
-            return
+            return False
+        except NotOfDevice as error:
+            self.wrong.append(f"{label}: {error}")
+            return True
         first = {file: (data, b"") for file, data in past.first_bytes.items()}
         seen = Seen(files_of(tree_at(past.first_names, first, {}, ROOT, b"")), effects)
         left = files_of(folder.tree)
@@ -54,6 +57,7 @@ class Compared:
             self.allowed += 1
         if path is None and chance.randrange(ALTERED) == 0:
             self.alter(chance, label, seen, left)
+        return True
 
     def alter(self, chance, label, seen, left):
         """Alters the folder in each way that is not allowed."""
@@ -63,7 +67,8 @@ class Compared:
                 continue
             if wrong_path(seen, altered) is None:
                 self.wrong.append(f"{label}: allowed {way.__name__}")
-            self.refused[way.__name__.replace("_", " ")] += 1
+            else:
+                self.refused[way.__name__.replace("_", " ")] += 1
 
 
 def cut(left, beyond):

@@ -52,6 +52,10 @@ class FailedFolder(NamedTuple):
     folder: bytes
 
 
+class NotOfDevice(Exception):
+    """A file of the device was written in a way in which no device writes."""
+
+
 class FolderMoved(Exception):
     """A folder was renamed, with all in it. No device does that: a repack does (crates/packed_store/src/layout_change.rt)."""
 
@@ -147,7 +151,7 @@ class Reading:
         if not is_of_device(path):
             return []
         if event.at != length:
-            raise ValueError(f"no device writes within a file: {path}")
+            raise NotOfDevice(f"no device writes within a file: {path}")
         return [Added(path, event.data)]
 
     def of_cut(self, event, path):
@@ -155,7 +159,7 @@ class Reading:
         if not is_of_device(path):
             return []
         if event.length:
-            raise ValueError(f"no device shortens a file: {path}")
+            raise NotOfDevice(f"no device shortens a file: {path}")
         return [Wrote(path, b"")]
 
     def of_sync(self, inode, path):

@@ -71,10 +71,12 @@ def names_after(past, changes):
 
 
 class Content:
-    """The bytes of a file: those that were synced, and those that were written in all."""
+    """The bytes of a file: those that were synced, and those that were written in all. It `is_kept` if it was synced, be it with
+    no byte, or was there before."""
 
-    def __init__(self, data):
+    def __init__(self, data, is_kept):
         self.synced, self.written, self.is_known, self.is_added = bytearray(data), bytearray(data), True, True
+        self.is_kept = is_kept
 
     def write(self, event):
         self.is_added = self.is_added and isinstance(event, Wrote) and event.at >= len(self.synced)
@@ -82,15 +84,15 @@ class Content:
         over(self.written, event)
 
     def sync(self):
-        self.synced, self.is_known, self.is_added = bytearray(self.written), True, True
+        self.synced, self.is_known, self.is_added, self.is_kept = bytearray(self.written), True, True, True
 
 
 def contents_of(past, events):
     """The bytes of each file."""
-    found = {file: Content(data) for file, data in past.first_bytes.items()}
+    found = {file: Content(data, True) for file, data in past.first_bytes.items()}
     for event in events:
         if isinstance(event, (Wrote, Cut)):
-            found.setdefault(event.file, Content(b"")).write(event)
+            found.setdefault(event.file, Content(b"", False)).write(event)
         elif isinstance(event, Synced) and event.inode in found:
             found[event.inode].sync()
     return found
@@ -120,7 +122,7 @@ def shortened(chance, content):
 
 def bytes_left(chance, model, content):
     """The bytes of a file that was not synced to its end, and zero bytes that stand for others."""
-    if not (content.is_added and content.synced):
+    if not (content.is_added and content.is_kept):
         return torn(chance, content.written), b""
     data = shortened(chance, content)
     lost = len(content.written) - len(data)
@@ -150,7 +152,7 @@ def left(chance, model, past, events):
     for file in sorted(lost):
         is_segment = kinds.get(file) in (SEGMENTS, MADE)
         data[file] = segment_left(chance, contents[file]) if is_segment else bytes_left(chance, model, contents[file])
-        if is_segment and contents[file].synced and not contents[file].written.startswith(data[file][0]):
+        if is_segment and contents[file].is_kept and not contents[file].written.startswith(data[file][0]):
             torn_at[file] = same_front(data[file][0], contents[file].written)
     zeros, beyond = {}, {}
     tree = tree_at(names, data, zeros, ROOT, b"")

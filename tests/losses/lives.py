@@ -110,7 +110,6 @@ class Life:
         recording.serve(GRANTS if self.before is None else [])
         past, known = recording.past, Known(self.program, recording, self.before)
         judge = Judge(self.program, home, known, self.way.sync)
-        self.found.compared.runs += 1
         why, count = judge.judge(self.chance, Left(past.tree(), {}, {}), len(past.events))
         self.found.note(f"{label}: what was recorded", why or self.why_not_all(known, count))
         goes_on = list(self.judged(label, judge, past, known))
@@ -123,19 +122,21 @@ class Life:
         return None if known.shows(count) == known.shows(len(known.done)) else "the recording is not what was done"
 
     def judged(self, label, judge, past, known):
+        compared = False
         for number in range(self.way.folders):
             chance = random.Random(f"{label}, {number}")
             moment, model = moment_in(chance, past), chance.choice(MODELS)
             events = events_before(chance, past, moment)
             folder = left(chance, model, past, events)
             altering = random.Random(f"{label}, {number}, altered")
-            self.found.compared.compare(altering, f"{label}, {number}: {model}", past, events, folder)
+            compared |= self.found.compared.compare(altering, f"{label}, {number}: {model}", past, events, folder)
             why, count = judge.judge(chance, folder, moment)
             self.found.note(f"{label}, {number}: {model}, after {moment} of {len(past.events)} events", why)
             if why is not None:
                 self.keep(why, folder)
             elif count >= 0 and PLACE in folder.tree and not folder.zeros:
                 yield folder.tree, known.turns(count)
+        self.found.compared.runs += compared
 
     def keep(self, why, folder):
         """Keeps the first wrong folder of each kind."""

@@ -13,7 +13,7 @@ LIVES, FOLDERS, TRIES = 20, 40, 6
 LONGEST = 300
 # At least so many recorded runs are compared with the definition. A run is what some processes did to one folder, one after another,
 # between two losses of power.
-RUNS = 100
+RUNS, RUNS_WITHOUT_SYNC = 100, 50
 
 
 def lived(program, seed, way):
@@ -32,7 +32,7 @@ def found_of(program, seed, way):
     """What is found in one life. If it only broke off, as when strace on a busy machine misses a call of a process that is
     killed, it is lived once more."""
     found, broken = lived(program, seed, way)
-    if broken and not found.wrong:
+    if broken and not (found.wrong or found.compared.wrong):
         found, broken = lived(program, seed, way)
     if broken:
         found.note(seed, f"a life breaks off: {broken!r}"[:LONGEST])
@@ -61,12 +61,12 @@ def show(checks, program, label, seed, sync, kept, repacks=False, uploads=False)
     return found.compared
 
 
-def show_compared(checks, compared, seed):
+def show_compared(checks, compared, seed, runs):
     """Every folder that was made of a recorded run is one that the definition allows, and altered ones are refused."""
     wrong, counts = differing(seed)
     checks.same("small pasts of which the search and the definition differ", [], wrong[:1])
     checks.same("small pasts that the definition allows, and such as it refuses", [True, True], [counts[True] > 0, counts[False] > 0])
-    checks.same(f"{compared.runs} recorded runs are {RUNS} at least", True, compared.runs >= RUNS)
+    checks.same(f"{compared.runs} recorded runs are {runs} at least", True, compared.runs >= runs)
     for why in compared.wrong:
         checks.holds("a folder that was made, or altered, and the definition", why)
     for way in ("without synced byte", "without synced name", "with other byte", "with old file"):

@@ -78,7 +78,7 @@ fn settle_all<S: LooseFiles, D: Device, J: Device + Drop>(
         return Err(Fault::NotSaved);
     };
     let stands = stands(standing, name);
-    let Ok(placed) = place(device, stands, synced) else {
+    let Ok(placed) = place(host, device, stands, synced) else {
         drop_state(device);
         return Err(Fault::NotSaved);
     };
@@ -88,8 +88,8 @@ fn settle_all<S: LooseFiles, D: Device, J: Device + Drop>(
 // Puts a host's drafted state in its place. The object files and the log of open uploads are synced first. Then the journal
 // gets the name of the new state. Then the part becomes the state, unless the folder already has that state. So at each
 // moment the state in the folder has its journal, its log and its objects. A single rename, of the state or of the journal,
-// replaces the old ones. After an `Err` the part is removed, if it can be, and no removal is final. `standing` is the name of the state that the
-// folder is sure to have, or `None` if the drafted one is to be placed in any case.
+// replaces the old ones. After an `Err` the part is removed, if it can be, and this made no removal final. `standing` is the
+// name of the state that the folder is sure to have, or `None` if the drafted one is to be placed in any case.
 pub(crate) fn put<S: LooseFiles, D: Device, J: Device + Drop>(
     alloc: Global,
     host: &mut Host<S>,

@@ -108,12 +108,14 @@ pub(crate) fn settle_others<S: LooseFiles, J: Device + Drop>(
     Ok(Synced { name })
 }
 
-/// Makes the part the state, or removes it if the folder already has that state.
-pub(crate) fn place<D: Device>(
+/// Makes the part the state, or removes it if the folder already has that state. Call it once the host's objects are synced.
+pub(crate) fn place<S: LooseFiles, D: Device>(
+    host: &Host<S>,
     device: &mut D,
     stands: bool,
     synced: Synced,
 ) -> Result<Placed, Fault>
+    requires objects { host.now.vault.durability.synced ≡ true }
     ensures cause { IfErr result (λ fault. fault ≡ Fault.NotSaved) }
     ensures settled { IsTrue (D.honest device.old) → SettlesPart (D.past device.old) (D.past device.new) }
     ensures placed { IsTrue (D.honest device.old) → stands ≡ false → OnOk result (PlacesPart (D.past device.old) (D.past device.new)) }
@@ -122,6 +124,8 @@ pub(crate) fn place<D: Device>(
     ensures name { IfOk result (λ placed. placed.name ≡ synced.name) }
     ensures honest { D.honest device.new ≡ D.honest device.old }
 {
+    // Taken for what it asks.
+    let _host = host;
     let Synced { name } = synced;
     if stands {
         drop_state(device);

@@ -1,5 +1,5 @@
 -- When no folder of names is marked.
-use Rattle.std.proofs.Common.{◌≡◌, ◌<◌, ◌≤◌, ◌+◌, ℕ, zero, suc, Bool, true, false, cond, List, slice_index_or, refl, ap, arith, ◌∙◌}
+use Rattle.std.proofs.Common.{◌≡◌, ◌<◌, ℕ, zero, suc, Bool, true, false, cond, List, slice_index_or, refl, ap, arith, ◌∙◌}
 use Rattle.std.specs.Prelude.{OnOk, Result, Ok, Err}
 use Rattle.indexmap.specs.IndexSet.{IndexSet, index_set_len}
 use Rattle.devices.specs.declared.device.DeviceFault.{DeviceFault}

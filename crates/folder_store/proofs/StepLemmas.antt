@@ -1,9 +1,8 @@
 -- What lasts, after the calls of a folder.
-use Rattle.std.proofs.Common.{◌≡◌, ◌≢◌, inl, inr, ℕ, ◌||◌, Bool, true, false, List, [], ◌∷◌, Option, Some, None, Result, Ok, Err, option_map, refl, sym, ◌∙◌, ap, subst}
+use Rattle.std.proofs.Common.{◌≡◌, ◌≢◌, inl, inr, ℕ, ◌||◌, Bool, true, false, List, [], ◌∷◌, Option, Some, None, option_map, refl, sym, ◌∙◌, ap, subst}
 use Rattle.std.specs.FinMap.{get}
 use Rattle.devices.specs.Crash.{File, Names, MayNames, MayBytes, Stands, set, moved, removed, names_after, bytes_after}
-use Rattle.devices.specs.Device.{Effect, Past, Does, IsPart, Wrote, Moved, Removed, SyncedFile, SyncedFolder, files_of, with_effect}
-use Rattle.devices.specs.Runs.{Runs}
+use Rattle.devices.specs.Device.{Effect, Past, Wrote, Moved, Removed, SyncedFile, SyncedFolder, files_of, with_effect}
 use Rattle.git_name.specs.Name.{IsName}
 use Rattle.folder_store.specs.Place.{part_of, place_of, swept_of}
 use Rattle.folder_store.specs.Swept.{is_whole, put_back}

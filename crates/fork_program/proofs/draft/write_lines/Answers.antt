@@ -1,7 +1,6 @@
-use Rattle.std.proofs.Common.{◌≡◌, ◌+◌, ◌++◌, ◌∙◌, ℕ, List, Option, Some, None, Ok, append-nil, ap, length, length-append, sym}
+use Rattle.std.proofs.Common.{◌≡◌, ◌+◌, ◌++◌, ◌∙◌, ℕ, List, Option, append-nil, ap, length, length-append, sym}
 use Rattle.std.proofs.lemmas.Result.{on_ok_weaker}
-use Rattle.devices.specs.Device.{Added, Past, with_effect}
-use Rattle.devices.specs.declared.device.DeviceFault.{DeviceFault}
+use Rattle.devices.specs.Device.{Added, with_effect}
 use Rattle.fork_program.specs.Journaling.{IsBegun, reference_lines}
 use Rattle.fork_program.specs.UploadLog.{reference_line}
 use Rattle.fork_program.specs.declared.log_reference.LogReference.{LogReference}

@@ -1,4 +1,4 @@
-use Rattle.std.proofs.Common.{List, ℕ, ◌∙◌, subst, sym}
+use Rattle.std.proofs.Common.{List, ℕ, ◌∙◌, subst}
 use Rattle.devices.specs.Device.{Does, Removed}
 use Rattle.fork_program.proofs.BegunLemmas.{log_removed}
 use Rattle.fork_program.proofs.upload_log.clear_log.Goals as goal

@@ -28,7 +28,7 @@ def body_at(lines, row):
     indent = indent_of(lines[row])
     level = [at for at in range(row, len(lines)) if lines[at].strip() and indent_of(lines[at]) == indent]
     opens = next((at for at in level if lines[at].endswith(("{", "}", ";"))), row)
-    # A method without a body may end with its last clause.
+    # A method without a body may end with its last clause, which stands in one line then.
     opens = next((at for at in range(row, opens) if LAST_CLAUSE.match(lines[at])), opens)
     if not lines[opens].endswith("{"):
         return opens, opens
